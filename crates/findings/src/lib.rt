@@ -1,0 +1,2 @@
+//! What a tree is found to be and to export. docs/FINDINGS.md has the rules.
+pub mod parsed_source;

@@ -1,0 +1,8 @@
+pub mod Sections
+mod Cover
+pub mod Grown
+mod Deepest
+mod Fits
+pub mod Standing
+mod Verdicts
+pub mod Rising

@@ -1,0 +1,9 @@
+use mathlib.Core.Path.{sym, ap, _∙_}
+use Rattle.tree.proofs.Sections.{row-in, row-past}
+use Rattle.tree.proofs.row.Rows.end.Needs as need
+
+pub returns-then-j-self : need.returns-then-j-self
+returns-then-j-self c = c .read-le32 .ensures ∙ sym (ap (λ r. r .end) (row-in (c .args .self .now .section .now) (c .args .self .now .count) (c .args .j) (c .if-j-self .taken)))
+
+pub returns-else-j-self : need.returns-else-j-self
+returns-else-j-self c = sym (ap (λ r. r .end) (row-past (c .args .self .now .section .now) (c .args .self .now .count) (c .args .j) (c .if-j-self .left)))
