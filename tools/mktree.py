@@ -1,4 +1,3 @@
-#!/usr/bin/env python3
 """Makes tree blocks: a small notation, smallest lawful trees, random lawful trees and damage to blocks.
 
 A tree is written as a tuple: its kind (a name or a number), then in any order its mark (a number), its text (bytes)

@@ -13,6 +13,8 @@ import random
 import struct
 import sys
 
+sys.dont_write_bytecode = True  # leave no cache beside the tools
+
 from mktree import (TOP, announced, block, damaged, flat, least, pack, plain_choice, put, random_block,
                     random_ends, random_kinds, random_texts, with_children)
 from tree_model import (ANY, COUNT, EXAMPLE, KINDS, MODULE_ITEMS, NUMBER, PROGRAM, answer, answer_by_definition,
@@ -406,14 +408,14 @@ ASTRAL = "\U0001F680".encode()
 
 def damaged_texts():
     texts = form_texts()
-    texts += [bytes([byte]) for byte in (0x80, 0x8F, 0x90, 0xA0, 0xBF, *range(0xC0, 0xC3), 0xDF, 0xE0, 0xED, 0xEF, 0xF0)]
+    texts += [bytes([byte]) for byte in b"\x80\x8F\x90\xA0\xBF\xC0\xC1\xC2\xDF\xE0\xED\xEF\xF0"]
     texts += [bytes([byte]) + b"\x80\x80\x80" for byte in range(0xF4, 0x100)]
     texts += [b"\xC0\x80", b"\xC1\xBF", b"\xE0\x80\x80", b"\xE0\x9F\xBF", b"\xF0\x80\x80\x80", b"\xF0\x8F\xBF\xBF",
               b"\xF8\x88\x80\x80\x80", b"\xFC\x84\x80\x80\x80\x80", b"\xF4\x90\x80\x80", b"\xF5\x80\x80\x80",
               b"\xFE", b"\xFF", b"\xFE\xFF", b"\xEF\xBB\xBF", b"\xEF\xBF\xBE", b"\xC3\xA9\x80", b"a\x80b", b"ab\xC3"]
     texts += [LEAD, TRAIL, LEAD_TOP, TRAIL_TOP, LEAD + TRAIL, TRAIL + LEAD, LEAD + LEAD + TRAIL, LEAD + TRAIL + TRAIL,
-              TRAIL + LEAD + TRAIL, LEAD + LEAD, TRAIL + TRAIL, LEAD_TOP + TRAIL_TOP, LEAD + TRAIL_TOP, LEAD_TOP + TRAIL,
-              LEAD + b"a" + TRAIL, LEAD + b"\x00" + TRAIL, LEAD + ASTRAL + TRAIL, ASTRAL + TRAIL, LEAD + ASTRAL,
+              TRAIL + LEAD + TRAIL, LEAD + LEAD, TRAIL + TRAIL, LEAD_TOP + TRAIL_TOP, LEAD + TRAIL_TOP,
+              LEAD_TOP + TRAIL, LEAD + b"a" + TRAIL, LEAD + b"\x00" + TRAIL, LEAD + ASTRAL + TRAIL, ASTRAL + TRAIL, LEAD + ASTRAL,
               b"a" + LEAD, b"a" + TRAIL, b"ab" + LEAD + TRAIL, LEAD + TRAIL + b"ab", LEAD[:2], LEAD[:1], LEAD + b"\xED",
               LEAD + TRAIL[:2], LEAD + b"\xED\x9F\xBF", LEAD + b"\xEE\x80\x80", b"\xED\x9F\xBF" + TRAIL,
               b"\xEC\xA0\x80" + TRAIL, b"\xEE\xA0\x80" + TRAIL, b"\xC3\xA9" + LEAD + b"\xC3\xA9" + TRAIL,
@@ -434,7 +436,7 @@ def cut_texts():
     """Each part of two texts: cut inside code points and between surrogates."""
     for name, text in (("mixed", "aé\uffff\U0001F680".encode()), ("surrogates", LEAD + TRAIL + b"a")):
         for offset in range(len(text) + 1):
-            for length in {0, 1, 2, 3, 4, len(text) - offset}:
+            for length in sorted({0, 1, 2, 3, 4, len(text) - offset}):
                 if offset + length <= len(text):
                     for kind in ("Ident", "Str"):
                         yield f"{kind} {name} cut {offset} {length}", text_row(kind, text, offset, length)

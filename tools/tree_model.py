@@ -411,7 +411,8 @@ def test_table():
 
 def test_texts(rng):
     texts = [bytes(part) for size in range(4) for part in itertools.product(EDGES, repeat=size)]
-    pieces = [b"a", b"\xC3\xA9", b"\xED\xA0\x80", b"\xED\xB0\x80", b"\xED\x9F\xBF", b"\xF0\x9F\x98\x80", b"\xED", b"\x80"]
+    pieces = [b"a", b"\xC3\xA9", b"\xED\xA0\x80", b"\xED\xB0\x80", b"\xED\x9F\xBF", b"\xF0\x9F\x98\x80",
+              b"\xED", b"\x80"]
     texts += [b"".join(part) for size in range(5) for part in itertools.product(pieces, repeat=size)]
     texts += [bytes(rng.choice(EDGES) for _ in range(rng.randint(4, 9))) for _ in range(20000)]
     for text in texts:

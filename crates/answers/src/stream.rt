@@ -69,12 +69,20 @@ fn next_block<R: Read>(input: &mut R, buffer: &mut [u8]) -> io::Result<Next>
         return Ok(if whole { Next::TooLong } else { Next::Short });
     }
     let held = fill(input, &mut buffer[0..length])?;
-    Ok(if held < length { Next::Short } else { Next::Block(length) })
+    Ok(if held < length {
+        Next::Short
+    } else {
+        Next::Block(length)
+    })
 }
 
 /// Answers each block of the input by a line on the output. A stream that ends inside a length or a block gets `short`.
 /// It keeps one block at a time.
-pub fn answer_stream<R: Read, W: Write>(heap: Global, input: &mut R, output: &mut W) -> io::Result<()> {
+pub fn answer_stream<R: Read, W: Write>(
+    heap: Global,
+    input: &mut R,
+    output: &mut W,
+) -> io::Result<()> {
     let mut buffer = vec![in heap; 0u8; LONGEST_BLOCK]?;
     for _ in 0..u64::MAX {
         match next_block(input, &mut buffer)? {

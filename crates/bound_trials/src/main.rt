@@ -40,11 +40,23 @@ fn streams(rt: &LibcRuntime) -> io::Result<()> {
     let heap = rt.alloc();
     show_stream(rt, "no block", b"")?;
     show_stream(rt, "a length cut short", b"\x10\x00\x00")?;
-    show_stream(rt, "an empty block and a block cut short", b"\x00\x00\x00\x00\x02\x00\x00\x00a")?;
-    show_stream(rt, "the largest block, one byte more, and a small one", &framed(heap, 4_194_305)?)?;
+    show_stream(
+        rt,
+        "an empty block and a block cut short",
+        b"\x00\x00\x00\x00\x02\x00\x00\x00a",
+    )?;
+    show_stream(
+        rt,
+        "the largest block, one byte more, and a small one",
+        &framed(heap, 4_194_305)?,
+    )?;
     let whole = framed(heap, 4_194_400)?;
     let cut = whole.len().min(8_388_700);
-    show_stream(rt, "a block too long that the stream cuts short", &whole[0..cut])
+    show_stream(
+        rt,
+        "a block too long that the stream cuts short",
+        &whole[0..cut],
+    )
 }
 
 fn main(rt: LibcRuntime) -> io::Result<()> {

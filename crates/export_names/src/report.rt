@@ -34,7 +34,11 @@ pub fn report_tree(rt: &LibcRuntime, name: &str, block: &[u8]) -> io::Result<()>
                 ProgramKind::Module => "module",
                 ProgramKind::Script => "script",
             };
-            let script = if program.compute_is_script() { "yes" } else { "no" };
+            let script = if program.compute_is_script() {
+                "yes"
+            } else {
+                "no"
+            };
             println!(rt, "{name}: a lawful tree block")?;
             println!(rt, "rows: {rows}")?;
             println!(rt, "program: {kind}")?;

@@ -30,6 +30,9 @@ pub impl fmt::Display for Fault as FaultDisplay {
         let layer = self.layer as u8;
         let module = self.module;
         let place = self.place;
-        write!(f, "fault {number} layer {layer} module {module} place {place}")
+        write!(
+            f,
+            "fault {number} layer {layer} module {module} place {place}"
+        )
     }
 }

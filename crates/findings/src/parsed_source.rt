@@ -23,7 +23,10 @@ pub struct ProgramRef<'a> {
 fn shows_module(kind: u32) -> bool
     ensures { λ r. ⌜ r ≡ showsModule kind ⌝ }
 {
-    matches!(kind, IMPORT | EXPORT_ALL | EXPORT_DECL | EXPORT_NAMED | EXPORT_DEFAULT)
+    matches!(
+        kind,
+        IMPORT | EXPORT_ALL | EXPORT_DECL | EXPORT_NAMED | EXPORT_DEFAULT
+    )
 }
 
 /// Whether a child of this kind shows a script.
@@ -45,7 +48,11 @@ impl<'a> ProgramRef<'a> {
     pub fn kind(&self) -> ProgramKind
         ensures { λ r. ⌜ r ≡ programKind (treeRows (now (now (self .entry) .tree))) ⌝ }
     {
-        if self.tree.row(0).mark == 1 { ProgramKind::Script } else { ProgramKind::Module }
+        if self.tree.row(0).mark == 1 {
+            ProgramKind::Script
+        } else {
+            ProgramKind::Module
+        }
     }
 
     /// Whether the program is treated as a script: a module is where its first child that tells shows a script.

@@ -73,7 +73,11 @@ pub fn text_of(kind: u32) -> Text
 pub fn highest_mark(kind: u32) -> u32
     ensures { λ r. ⌜ r ≡ highestMark kind ⌝ }
 {
-    if matches!(kind, PROGRAM | NUM | ASSIGN) { 1 } else { 0 }
+    if matches!(kind, PROGRAM | NUM | ASSIGN) {
+        1
+    } else {
+        0
+    }
 }
 
 /// The fewest children of a kind.
@@ -82,9 +86,28 @@ pub fn fewest_children(kind: u32) -> usize
 {
     match kind {
         MEMBER | ASSIGN | KEY_VALUE | METHOD | KEY_VALUE_PAT | ASSIGN_PAT => 2,
-        CALL | SPREAD | COMPUTED | PAREN | SEQ | GETTER | SETTER | FN_EXPR | ARROW | DECLARATOR | ASSIGN_PAT_PROP
-        | REST_PAT | EXPORT_ALL | EXPORT_DECL | NAMESPACE_SPEC | DEFAULT_SPEC | NAMED_SPEC | EXPORT_DEFAULT
-        | CLASS_DECL | FN_DECL | TS_ENUM | TS_MODULE => 1,
+        CALL
+        | SPREAD
+        | COMPUTED
+        | PAREN
+        | SEQ
+        | GETTER
+        | SETTER
+        | FN_EXPR
+        | ARROW
+        | DECLARATOR
+        | ASSIGN_PAT_PROP
+        | REST_PAT
+        | EXPORT_ALL
+        | EXPORT_DECL
+        | NAMESPACE_SPEC
+        | DEFAULT_SPEC
+        | NAMED_SPEC
+        | EXPORT_DEFAULT
+        | CLASS_DECL
+        | FN_DECL
+        | TS_ENUM
+        | TS_MODULE => 1,
         _ => 0,
     }
 }
@@ -95,10 +118,27 @@ pub fn most_children(kind: u32) -> Option<usize>
 {
     match kind {
         IDENT | STR | NUM | OTHER_LIT | PRIVATE_NAME | SHORTHAND => Some(0),
-        SPREAD | COMPUTED | PAREN | RETURN | REST_PAT | EXPORT_ALL | EXPORT_DECL | NAMESPACE_SPEC | DEFAULT_SPEC
+        SPREAD
+        | COMPUTED
+        | PAREN
+        | RETURN
+        | REST_PAT
+        | EXPORT_ALL
+        | EXPORT_DECL
+        | NAMESPACE_SPEC
+        | DEFAULT_SPEC
         | EXPORT_DEFAULT => Some(1),
-        MEMBER | ASSIGN | KEY_VALUE | GETTER | METHOD | FN_EXPR | DECLARATOR | KEY_VALUE_PAT | ASSIGN_PAT_PROP
-        | ASSIGN_PAT | NAMED_SPEC => Some(2),
+        MEMBER
+        | ASSIGN
+        | KEY_VALUE
+        | GETTER
+        | METHOD
+        | FN_EXPR
+        | DECLARATOR
+        | KEY_VALUE_PAT
+        | ASSIGN_PAT_PROP
+        | ASSIGN_PAT
+        | NAMED_SPEC => Some(2),
         _ => None,
     }
 }

@@ -29,8 +29,8 @@ module _ (rs : List Row) where
 
     pub lawful-below : endAt rs 0 ≡ length rs → ((i : ℕ) → i < n → i < endAt rs i) → (j : ℕ) → j < n → LawfulEnd rs j
     lawful-below w up j h =
-        record
-          { above = up j h
-          ; within = λ i e. within-by j i j h (omega arith) (e .0) (e .1)
-          ; whole = λ z. ap (endAt rs) z ∙ w
-          }
+        record {
+          above = up j h;
+          within = λ i e. within-by j i j h (omega arith) (e .0) (e .1);
+          whole = λ z. ap (endAt rs) z ∙ w;
+        }

@@ -43,21 +43,21 @@ module _ (rs : List Row) where
     where
       first : (a k : ℕ) → depth rs a ≤ 256 → a ≤ k → (a + 1 ≤ k → depth rs k ≤ 256) → depth rs k ≤ 256
       first a k d h f = ⊎-elim (λ w. f (omega arith)) (λ w. let s : a ≡ k = omega arith in subst (λ z. depth rs z ≤ 256) s d) (cases-lt a k)
-  joined a m e None (Some k) l le d x y =
-      ( omega arith
-      , y .1
-      , y .2
-      , (λ j h i. ⊎-elim
-            (λ w. ⊎-elim (λ v. x j (omega arith) v) (λ v. y .3 j v i) (cases-lt j m))
-            (λ w. let s : a ≡ j = omega arith in subst (λ z. depth rs z ≤ 256) s d)
-            (cases-lt a j))
-      )
-  joined a m e (Some k) p l le d x y =
-      ( omega arith
-      , omega arith
-      , x .2
-      , (λ j h i. ⊎-elim (λ w. x .3 j (omega arith) i) (λ w. let s : a ≡ j = omega arith in subst (λ z. depth rs z ≤ 256) s d) (cases-lt a j))
-      )
+  joined a m e None (Some k) l le d x y = (
+    omega arith,
+    y .1,
+    y .2,
+    (λ j h i. ⊎-elim
+        (λ w. ⊎-elim (λ v. x j (omega arith) v) (λ v. y .3 j v i) (cases-lt j m))
+        (λ w. let s : a ≡ j = omega arith in subst (λ z. depth rs z ≤ 256) s d)
+        (cases-lt a j)),
+  )
+  joined a m e (Some k) p l le d x y = (
+    omega arith,
+    omega arith,
+    x .2,
+    (λ j h i. ⊎-elim (λ w. x .3 j (omega arith) i) (λ w. let s : a ≡ j = omega arith in subst (λ z. depth rs z ≤ 256) s d) (cases-lt a j)),
+  )
 
   turn : (a m e d : ℕ) (o p : Option ℕ) → a < m → m ≤ e → depth rs a ≡ d → FirstDeep rs (a + 1) m o → FirstDeep rs m e p → FirstDeep rs a e (cond (ltb 256 d) (Some a) (orElse o p))
   turn a m e d o p l le here x y =
@@ -72,23 +72,23 @@ module _ (rs : List Row) where
     deep-by (suc f) d a e l s n =
         ⊎-elim
         (λ h.
-            let up : a < endAt rs a = law .above a (omega (arith, s .in-rows)) in
-            let le : endAt rs a ≤ e = s .closed a (omega arith) h in
-            let here : depth rs a ≡ d = n a (omega arith) h in
-            let under =
-                  deep-by f (d + 1) (a + 1) (endAt rs a) (omega arith) (span-children-in rs law a (omega (arith, s .in-rows)))
-                  (λ k p q. one-more a k q ∙ ap (λ x. x + 1) (n k (omega arith) (omega arith))) in
-            let later =
-                  deep-by f d (endAt rs a) e (omega arith) (span-rest rs law a e h s)
-                  (λ k p q.
-                      let b : a + (endAt rs a - a) ≡ endAt rs a = omega arith in
-                      let g = flat (endAt rs a - a) a k (λ i x y. ⊎-elim
-                            (λ w. let c : endAt rs i ≤ endAt rs a = law .within a i w (omega arith) in omega arith)
-                            (λ w. let c : a ≡ i = omega arith in subst (λ z. endAt rs z ≤ k) c p)
-                            (cases-lt a i)) in
-                      rw b at g ∙ n k (omega arith) q) in
-            rw (forest-some rs law a e h s)
-            (turn a (endAt rs a) e d (deep (d + 1) (children rs a)) (deep d (forest rs (endAt rs a) e)) up le here under later))
+        let up : a < endAt rs a = law .above a (omega (arith, s .in-rows)) in
+        let le : endAt rs a ≤ e = s .closed a (omega arith) h in
+        let here : depth rs a ≡ d = n a (omega arith) h in
+        let under =
+        deep-by f (d + 1) (a + 1) (endAt rs a) (omega arith) (span-children-in rs law a (omega (arith, s .in-rows)))
+        (λ k p q. one-more a k q ∙ ap (λ x. x + 1) (n k (omega arith) (omega arith))) in
+        let later =
+        deep-by f d (endAt rs a) e (omega arith) (span-rest rs law a e h s)
+        (λ k p q.
+        let b : a + (endAt rs a - a) ≡ endAt rs a = omega arith in
+        let g = flat (endAt rs a - a) a k (λ i x y. ⊎-elim
+        (λ w. let c : endAt rs i ≤ endAt rs a = law .within a i w (omega arith) in omega arith)
+        (λ w. let c : a ≡ i = omega arith in subst (λ z. endAt rs z ≤ k) c p)
+        (cases-lt a i)) in
+        rw b at g ∙ n k (omega arith) q) in
+        rw (forest-some rs law a e h s)
+        (turn a (endAt rs a) e d (deep (d + 1) (children rs a)) (deep d (forest rs (endAt rs a) e)) up le here under later))
         (λ h. rw (forest-none rs law a e h) (λ k p q. absurd (omega arith)))
         (cases-lt a e)
 
@@ -101,8 +101,8 @@ module _ (rs : List Row) where
     deep-all =
         ⊎-elim
         (λ h.
-            let end : forest rs (endAt rs 0) (length rs) ≡ nil = forest-none rs law _ _ (omega (arith, law .whole)) in
-            sym (ap (deep 0) (forest-some rs law 0 (length rs) h (record { in-rows = omega arith; closed = λ k a b. end-in-rows rs law k b })) ∙ ap (λ f. orElse (deep 1 (children rs 0)) (deep 0 f)) end ∙ or-none (deep 1 (children rs 0))))
+        let end : forest rs (endAt rs 0) (length rs) ≡ nil = forest-none rs law _ _ (omega (arith, law .whole)) in
+        sym (ap (deep 0) (forest-some rs law 0 (length rs) h (record { in-rows = omega arith; closed = λ k a b. end-in-rows rs law k b })) ∙ ap (λ f. orElse (deep 1 (children rs 0)) (deep 0 f)) end ∙ or-none (deep 1 (children rs 0))))
         (λ h. ap (deep 1) (forest-none rs law _ _ (omega (arith, law .whole))) ∙ sym (ap (deep 0) (forest-none rs law _ _ h)))
         (cases-lt 0 (length rs))
       where

@@ -16,11 +16,11 @@ end-past rs j h = ap (λ r. r .end) (getD-past rs j blank h)
 
 pub nested : (rs : List Row) → ((j : ℕ) → j < length rs → LawfulEnd rs j) → Nested rs
 nested rs all =
-    record
-      { above = λ j h. all j h .above
-      ; within = λ i j a b. ⊎-elim (λ h. all j h .within i (a, b)) (λ h. omega (arith, end-past rs j h)) (cases-lt j (length rs))
-      ; whole = ⊎-elim (λ h. all 0 h .whole refl) (λ h. omega (arith, end-past rs 0 h)) (cases-lt 0 (length rs))
-      }
+    record {
+      above = λ j h. all j h .above;
+      within = λ i j a b. ⊎-elim (λ h. all j h .within i (a, b)) (λ h. omega (arith, end-past rs j h)) (cases-lt j (length rs));
+      whole = ⊎-elim (λ h. all 0 h .whole refl) (λ h. omega (arith, end-past rs 0 h)) (cases-lt 0 (length rs));
+    }
 
 -- no row from j up to e ends past e
 pub record Span (rs : List Row) (j e : ℕ) : Type 0 where
@@ -57,13 +57,13 @@ module _ (rs : List Row) (law : Nested rs) where
   grown-same (suc f) (suc g) j e s a b =
       ⊎-elim
       (λ h.
-          let up : j < endAt rs j = law .above j (omega (arith, s .in-rows)) in
-          let le : endAt rs j ≤ e = s .closed j (omega arith) h in
-          let under = grown-same f g (j + 1) (endAt rs j) (span-children-in j (omega (arith, s .in-rows))) (omega arith) (omega arith) in
-          let rest = grown-same f g (endAt rs j) e (span-rest j e h s) (omega arith) (omega arith) in
-          let x = grown-some f j e h in
-          let y = grown-some g j e h in
-          cc)
+      let up : j < endAt rs j = law .above j (omega (arith, s .in-rows)) in
+      let le : endAt rs j ≤ e = s .closed j (omega arith) h in
+      let under = grown-same f g (j + 1) (endAt rs j) (span-children-in j (omega (arith, s .in-rows))) (omega arith) (omega arith) in
+      let rest = grown-same f g (endAt rs j) e (span-rest j e h s) (omega arith) (omega arith) in
+      let x = grown-some f j e h in
+      let y = grown-some g j e h in
+      cc)
       (λ h. grown-none (suc f) j e h ∙ sym (grown-none (suc g) j e h))
       (cases-lt j e)
 

@@ -6,3 +6,4 @@ mod Fits
 pub mod Standing
 mod Verdicts
 pub mod Rising
+mod Direct

@@ -6,3 +6,4 @@ pub mod Shaped
 pub mod Texts
 pub mod Verdict
 pub mod Subject
+pub mod Enclosure

@@ -1,6 +1,7 @@
 //! What a tree is asked: its rows, their children and siblings, their texts.
 ghost use mathlib.Core.Path.{_≡_};
 ghost use lib.ListN.{length};
+ghost use Rattle.tree.specs.Enclosure.{Children-are-enclosed-directly, Children-stand-in-order};
 ghost use Rattle.tree.specs.Forest.{Under, children, rowAt, siblings, since};
 ghost use Rattle.tree.specs.Subject.{treeRows, treeText};
 ghost use Rattle.tree.specs.Texts.{textAt};
@@ -26,6 +27,7 @@ impl<'a> Tree<'a> {
     pub fn first_child(&self, j: usize) -> Option<usize>
         ensures is { λ r. ⌜ children (treeRows (now (self .entry))) j ≡ since (treeRows (now (self .entry))) j r ⌝ }
         ensures under { λ r. ⌜ Under (treeRows (now (self .entry))) j r ⌝ }
+        ensures direct { λ _. ⌜ Children-are-enclosed-directly ⌝ ∗ ⌜ Children-stand-in-order ⌝ }
     {
         self.rows.first_child(j)
     }

@@ -40,7 +40,13 @@ const EMPTY_SCRIPT: [u8; 20] = [1, 0, 0, 0, 1, 0, 0, 0, 0, 0, 0, 0, 0, 0, 0, 0, 
 
 /// The tree of an empty script.
 fn empty_script() -> Tree<'static> {
-    Tree { rows: Rows { section: &EMPTY_SCRIPT, count: 1 }, text: &[] }
+    Tree {
+        rows: Rows {
+            section: &EMPTY_SCRIPT,
+            count: 1,
+        },
+        text: &[],
+    }
 }
 
 /// The tree of a block that no refusal concerns.
@@ -49,7 +55,10 @@ fn lawful_tree(block: &[u8]) -> Tree<'_>
     ensures { λ r. ⌜ TreeOf (now (block .entry)) r ⌝ }
 {
     let sections = sections_of(block);
-    Tree { rows: sections.rows, text: sections.text }
+    Tree {
+        rows: sections.rows,
+        text: sections.text,
+    }
 }
 
 impl<'a> Tree<'a> {
@@ -61,8 +70,14 @@ impl<'a> Tree<'a> {
         ensures tree { λ r. ⌜ (r .fault ≡ None → TreeOf (now (block .entry)) (r .tree)) ⌝ }
     {
         match first_fault(module, block) {
-            Some(fault) => Checked { tree: empty_script(), fault: Some(fault) },
-            None => Checked { tree: lawful_tree(block), fault: None },
+            Some(fault) => Checked {
+                tree: empty_script(),
+                fault: Some(fault),
+            },
+            None => Checked {
+                tree: lawful_tree(block),
+                fault: None,
+            },
         }
     }
 }

@@ -12,7 +12,11 @@ impl Rows<'_> {
         ensures under { λ r. ⌜ Under (rowsOf (now (self .entry))) j r ⌝ }
     {
         let end = self.end(j);
-        if j < end && j + 1 < end { Some(j + 1) } else { None }
+        if j < end && j + 1 < end {
+            Some(j + 1)
+        } else {
+            None
+        }
     }
 
     /// The sibling after row c among the children of row j.
@@ -23,6 +27,10 @@ impl Rows<'_> {
         ensures later { λ r. ⌜ Under (rowsOf (now (self .entry))) c r ⌝ }
     {
         let next = self.end(c);
-        if j < c && c < next && next < self.end(j) { Some(next) } else { None }
+        if j < c && c < next && next < self.end(j) {
+            Some(next)
+        } else {
+            None
+        }
     }
 }

@@ -7,8 +7,11 @@ use text::part;
 use text::read_le32;
 
 const HEADER: usize = 16;
+
 const LONGEST_BLOCK: usize = 4_194_304;
+
 const ROW: usize = 20;
+
 const LONGEST_ROWS: usize = 1_310_720;
 
 /// The sections of a block.
@@ -29,7 +32,11 @@ pub fn is_lawful_layout(block: &[u8]) -> bool
     let rows_length = read_le32(block, 4) as usize;
     let text_offset = read_le32(block, 8) as usize;
     let text_length = read_le32(block, 12) as usize;
-    if rows_offset < HEADER || rows_length == 0 || rows_length % ROW != 0 || rows_length > LONGEST_ROWS {
+    if rows_offset < HEADER
+        || rows_length == 0
+        || rows_length % ROW != 0
+        || rows_length > LONGEST_ROWS
+    {
         return false;
     }
     rows_offset + rows_length <= text_offset && text_offset + text_length <= block.len()
@@ -44,6 +51,16 @@ pub fn sections_of(block: &[u8]) -> Sections<'_>
     let rows_offset = read_le32(block, 0) as usize;
     let rows_length = read_le32(block, 4) as usize;
     let section = part(block, rows_offset, rows_length);
-    let text = part(block, read_le32(block, 8) as usize, read_le32(block, 12) as usize);
-    Sections { rows: Rows { section, count: rows_length / ROW }, text }
+    let text = part(
+        block,
+        read_le32(block, 8) as usize,
+        read_le32(block, 12) as usize,
+    );
+    Sections {
+        rows: Rows {
+            section,
+            count: rows_length / ROW,
+        },
+        text,
+    }
 }

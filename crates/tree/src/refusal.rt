@@ -26,6 +26,11 @@ impl TreeFault {
             TreeFault::Shape { module, row } => (4, module, row),
             TreeFault::Text { module, row } => (5, module, row),
         };
-        Fault { number, layer: Layer::Tree, module, place }
+        Fault {
+            number,
+            layer: Layer::Tree,
+            module,
+            place,
+        }
     }
 }

@@ -12,7 +12,13 @@ impl Rows<'_> {
         ensures { λ r. ⌜ r ≡ rowAt (rowsOf (now (self .entry))) j ⌝ }
     {
         if j >= self.count {
-            return Row { kind: 0, mark: 0, offset: 0, length: 0, end: 0 };
+            return Row {
+                kind: 0,
+                mark: 0,
+                offset: 0,
+                length: 0,
+                end: 0,
+            };
         }
         let at = 20 * j;
         Row {
@@ -28,6 +34,10 @@ impl Rows<'_> {
     pub fn end(&self, j: usize) -> usize
         ensures { λ r. ⌜ r ≡ endAt (rowsOf (now (self .entry))) j ⌝ }
     {
-        if j < self.count { read_le32(self.section, 20 * j + 16) as usize } else { 0 }
+        if j < self.count {
+            read_le32(self.section, 20 * j + 16) as usize
+        } else {
+            0
+        }
     }
 }

@@ -22,7 +22,11 @@ const KINDS: u32 = 50;
 fn child_fits(last: Option<Group>, group: Group, is_last: bool, kind: u32) -> bool
     ensures { λ r. ⌜ r ≡ has (groupFor last group «is_last») kind ⌝ }
 {
-    let own = if is_last { last.unwrap_or(group) } else { group };
+    let own = if is_last {
+        last.unwrap_or(group)
+    } else {
+        group
+    };
     own.has(kind)
 }
 
@@ -43,7 +47,11 @@ fn may_have(kind: u32, count: usize) -> bool
 fn root_is_program(j: usize, kind: u32) -> bool
     ensures { λ r. ⌜ r ≡ rootIsProgram j kind ⌝ }
 {
-    if j == 0 { kind == PROGRAM } else { kind != PROGRAM }
+    if j == 0 {
+        kind == PROGRAM
+    } else {
+        kind != PROGRAM
+    }
 }
 
 impl Rows<'_> {
@@ -74,7 +82,10 @@ impl Rows<'_> {
         ensures { λ r. ⌜ r ≡ isShaped (rowsOf (now (self .entry))) j ⌝ }
     {
         let row = self.row(j);
-        row.kind < KINDS && root_is_program(j, row.kind) && row.mark <= highest_mark(row.kind) && self.children_fit(j)
+        row.kind < KINDS
+            && root_is_program(j, row.kind)
+            && row.mark <= highest_mark(row.kind)
+            && self.children_fit(j)
     }
 
     /// The first row that does not fit the table of kinds.

@@ -74,10 +74,10 @@ pub returns : need.returns
 returns c =
     let s = c .sections-of-sections .ensures in
     accepted
-    (record
-      { layout = c .is-lawful-layout .ensures .0 (c .if-not-is-lawful-layout .left)
-      ; ends = ends (now (c .args .block)) _ _ (s .rows) (s .text) None (c .in-rest .ensures tt)
-      ; depths = depths (now (c .args .block)) _ _ (s .rows) (s .text) None (c .in-rest-first-deep .ensures tt)
-      ; shapes = shapes (now (c .args .block)) _ _ (s .rows) (s .text) None (c .in-rest-first-unshaped .ensures tt)
-      ; texts = texts (now (c .args .block)) _ _ (s .rows) (s .text) None (c .in-rest-first-unlawful-text .ensures tt)
-      })
+    (record {
+      layout = c .is-lawful-layout .ensures .0 (c .if-not-is-lawful-layout .left);
+      ends = ends (now (c .args .block)) _ _ (s .rows) (s .text) None (c .in-rest .ensures tt);
+      depths = depths (now (c .args .block)) _ _ (s .rows) (s .text) None (c .in-rest-first-deep .ensures tt);
+      shapes = shapes (now (c .args .block)) _ _ (s .rows) (s .text) None (c .in-rest-first-unshaped .ensures tt);
+      texts = texts (now (c .args .block)) _ _ (s .rows) (s .text) None (c .in-rest-first-unlawful-text .ensures tt);
+    })

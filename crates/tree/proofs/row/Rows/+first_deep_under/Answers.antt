@@ -39,10 +39,10 @@ pub loop-c-again : need.loop-c-again
 loop-c-again t c =
     let s = c .args .self .now in
     let u = ap (deep (c .args .depth)) (forest-some (rowsOf s) (c .pre) (c .loop-c .c) (c .end-end .result) (c .loop-c-test .taken) (c .loop-c .inv .1)) in
-    let up = c .pre .above (c .loop-c .c) (omega (arith, c .loop-c .inv .1 .in-rows)) in
-    ( omega arith
-    , rw (c .end-c .ensures) (span-rest (rowsOf s) (c .pre) (c .loop-c .c) (c .end-end .result) (c .loop-c-test .taken) (c .loop-c .inv .1))
-    , c .loop-c .inv .2 ∙ u ∙ cond-false _ _ _ (le-ltb 256 (c .args .depth) (c .if-depth-gt-DEEPEST .left)) ∙ rw (← c .in-rest .ensures tt, c .end-c .ensures)
+    let up = c .pre .above (c .loop-c .c) (omega (arith, c .loop-c .inv .1 .in-rows)) in (
+      omega arith,
+      rw (c .end-c .ensures) (span-rest (rowsOf s) (c .pre) (c .loop-c .c) (c .end-end .result) (c .loop-c-test .taken) (c .loop-c .inv .1)),
+      c .loop-c .inv .2 ∙ u ∙ cond-false _ _ _ (le-ltb 256 (c .args .depth) (c .if-depth-gt-DEEPEST .left)) ∙ rw (← c .in-rest .ensures tt, c .end-c .ensures),
     )
 
 pub returns : need.returns

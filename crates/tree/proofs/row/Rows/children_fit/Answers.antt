@@ -12,10 +12,10 @@ use Rattle.tree.proofs.row.Rows.children_fit.Needs as need
 
 pub loop-child-holds : need.loop-child-holds
 loop-child-holds c =
-    let rs = rowsOf (c .args .self .now) in
-    ( c .first-child-child .ensures .under
-    , passed-none rs (c .first-child-child .result)
-    , fit-start rs (c .args .j) (c .row-row .result) (c .first-child-group-group .result) (c .first-child-child .result) (c .first-child-group-group .ensures) (c .first-child-child .ensures .is)
+    let rs = rowsOf (c .args .self .now) in (
+      c .first-child-child .ensures .under,
+      passed-none rs (c .first-child-child .result),
+      fit-start rs (c .args .j) (c .row-row .result) (c .first-child-group-group .result) (c .first-child-child .result) (c .first-child-group-group .ensures) (c .first-child-child .ensures .is),
     )
 
 -- what the invariant says of the child that the turn is at
@@ -32,12 +32,12 @@ loop-child-again c =
     let rs = rowsOf (c .args .self .now) in
     let r = c .row-row .result in
     let h = at-child c in
-    let next = c .next-sibling-child .result in
-    ( c .next-sibling-child .ensures .under
-    , passed-one rs (c .in-Some .c) next (c .loop-child .count) (h .0 .1) (h .1) (c .next-sibling-child .ensures .later)
-    , c .loop-child .inv .2 ∙ ap (λ o. fitFrom rs (c .args .j) r (c .loop-child .group) o (c .loop-child .count)) (c .in-Some .is)
-      ∙ child-fits rs (c .args .j) (c .in-Some .c) r (c .loop-child .group) (c .later-child-group-group .result) (c .last-child-group-last .result) next (c .is-none .result) (c .loop-child .count) (c .row .result .kind)
-          (c .next-sibling-child .ensures .is) (c .is-none .ensures) (c .last-child-group-last .ensures) (c .later-child-group-group .ensures) (ap (λ x. x .kind) (c .row .ensures)) (c .if-not-child-fits .ensures tt)
+    let next = c .next-sibling-child .result in (
+      c .next-sibling-child .ensures .under,
+      passed-one rs (c .in-Some .c) next (c .loop-child .count) (h .0 .1) (h .1) (c .next-sibling-child .ensures .later),
+      c .loop-child .inv .2 ∙ ap (λ o. fitFrom rs (c .args .j) r (c .loop-child .group) o (c .loop-child .count)) (c .in-Some .is)
+          ∙ child-fits rs (c .args .j) (c .in-Some .c) r (c .loop-child .group) (c .later-child-group-group .result) (c .last-child-group-last .result) next (c .is-none .result) (c .loop-child .count) (c .row .result .kind)
+          (c .next-sibling-child .ensures .is) (c .is-none .ensures) (c .last-child-group-last .ensures) (c .later-child-group-group .ensures) (ap (λ x. x .kind) (c .row .ensures)) (c .if-not-child-fits .ensures tt),
     )
 
 pub returns : need.returns

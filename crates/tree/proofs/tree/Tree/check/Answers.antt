@@ -10,8 +10,8 @@ lawful-tree-requires c κs = lawful _ _ (c .in-None .ensures tt)
 
 pub returns-in-Some : need.returns-in-Some
 returns-in-Some c =
-    record
-      { verdict = c .in-Some .ensures tt
-      ; accepts = accepts _ _ (Some (c .in-Some .fault)) (c .in-Some .ensures tt)
-      ; tree = λ e. let z : _≡_ {A = ℕ} 0 1 = cc in absurd (omega arith)
-      }
+    record {
+      verdict = c .in-Some .ensures tt;
+      accepts = accepts _ _ (Some (c .in-Some .fault)) (c .in-Some .ensures tt);
+      tree = λ e. let z : _≡_ {A = ℕ} 0 1 = cc in absurd (omega arith);
+    }
