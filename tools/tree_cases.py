@@ -3,7 +3,7 @@
 the lines that the model of tree_model.py gives for it. The same bytes come out at every run.
 
     tree_cases.py               writes the trials
-    tree_cases.py --data        writes data/driver.tree, data/module.tree and data/damaged.tree
+    tree_cases.py --data        writes driver.tree, module.tree and damaged.tree, the data of export_names
     tree_cases.py --self-test   makes the cases and compares both ways of the model on each, without writing
     tree_cases.py --list        prints number, name and line of each case
 """
@@ -22,7 +22,7 @@ from tree_model import (ANY, COUNT, EXAMPLE, KINDS, MODULE_ITEMS, NUMBER, PROGRA
 
 ROOT = pathlib.Path(__file__).resolve().parent.parent
 TRIALS = ROOT / "crates" / "stream_trials"
-DATA = ROOT / "data"
+DATA = ROOT / "crates" / "export_names" / "data"
 SEED = 20
 MOST_STDIN = 600_000
 RANDOM_CASES = 920  # half of them lawful
@@ -578,7 +578,7 @@ def write_data():
         data = make()
         assert answer(data) == line, (name, answer(data))
         (DATA / name).write_bytes(data)
-        print(f"data/{name}: {len(data)} bytes, {line}")
+        print(f"{name}: {len(data)} bytes, {line}")
 
 
 def write_trials():

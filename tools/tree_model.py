@@ -53,7 +53,7 @@ TABLE = """
 | 19 | Method | none | 0 | 2 | 2 | key | Function | - |
 | 20 | Function | none | 0 | 0 | no limit | any but Block | any but Block | any |
 | 21 | FnExpr | none | 0 | 1 | 2 | Ident | Ident (never used) | Function |
-| 22 | Arrow | none | 0 | 1 | no limit | any | any | any |
+| 22 | Arrow | none | 0 | 1 | no limit | any | any | - |
 | 23 | Block | none | 0 | 0 | no limit | any | any | - |
 | 24 | Return | none | 0 | 0 | 1 | any | - | - |
 | 25 | VarDecl | none | 0 | 0 | no limit | Declarator | Declarator | - |

@@ -23,21 +23,21 @@ module _ (rs : List Row) (law : Nested rs) where
   top (suc f) a e c l s t =
       ⊎-elim
       (λ h.
-          let up : a < endAt rs a = law .above a (omega (arith, s .in-rows)) in
-          ⊎-elim
-          (λ q. record { low = omega arith; high = omega arith; free = λ i p x. omega (arith, x .0) })
-          (λ q.
-              let n = top f (endAt rs a) e c (omega arith) (span-rest rs law a e h s) q in
-              let inner : (i : ℕ) → a ≤ i → i < endAt rs a → c < endAt rs i → ⊥ = λ i p y x. ⊎-elim
-                    (λ z. let w : endAt rs i ≤ endAt rs a = law .within a i z y in omega (arith, n .low))
-                    (λ z. let w : i ≡ a = omega arith in omega (arith, n .low, subst (λ k. c < endAt rs k) w x))
-                    (cases-lt a i) in
-              record
-                { low = omega (arith, n .low)
-                ; high = n .high
-                ; free = λ i p x. ⊎-elim (λ y. inner i p y (x .1)) (λ y. n .free i y x) (cases-lt i (endAt rs a))
-                })
-          (subst (Stands c) (forest-some rs law a e h s) t))
+      let up : a < endAt rs a = law .above a (omega (arith, s .in-rows)) in
+      ⊎-elim
+      (λ q. record { low = omega arith; high = omega arith; free = λ i p x. omega (arith, x .0) })
+      (λ q.
+      let n = top f (endAt rs a) e c (omega arith) (span-rest rs law a e h s) q in
+      let inner : (i : ℕ) → a ≤ i → i < endAt rs a → c < endAt rs i → ⊥ = λ i p y x. ⊎-elim
+      (λ z. let w : endAt rs i ≤ endAt rs a = law .within a i z y in omega (arith, n .low))
+      (λ z. let w : i ≡ a = omega arith in omega (arith, n .low, subst (λ k. c < endAt rs k) w x))
+      (cases-lt a i) in
+      record {
+        low = omega (arith, n .low);
+        high = n .high;
+        free = λ i p x. ⊎-elim (λ y. inner i p y (x .1)) (λ y. n .free i y x) (cases-lt i (endAt rs a));
+      })
+      (subst (Stands c) (forest-some rs law a e h s) t))
       (λ h. absurd (subst (Stands c) (forest-none rs law a e h) t))
       (cases-lt a e)
 
@@ -48,19 +48,19 @@ module _ (rs : List Row) (law : Nested rs) where
       let up : a < endAt rs a = law .above a (omega (arith, s .in-rows)) in
       subst (Stands c) (sym (forest-some rs law a e h s))
       (⊎-elim
-          (λ q.
-              let past : endAt rs a ≤ c = ⊎-elim (λ x. absurd (t .free a (omega arith) (q, x))) (λ x. x) (cases-lt c (endAt rs a)) in
-              inr (stands f (endAt rs a) e c (omega arith) (span-rest rs law a e h s) (record { low = past; high = t .high; free = λ i p x. t .free i (omega arith) x })))
-          (λ q. inl (omega (arith, t .low)))
-          (cases-lt a c))
+      (λ q.
+      let past : endAt rs a ≤ c = ⊎-elim (λ x. absurd (t .free a (omega arith) (q, x))) (λ x. x) (cases-lt c (endAt rs a)) in
+      inr (stands f (endAt rs a) e c (omega arith) (span-rest rs law a e h s) (record { low = past; high = t .high; free = λ i p x. t .free i (omega arith) x })))
+      (λ q. inl (omega (arith, t .low)))
+      (cases-lt a c))
 
   rises : (f a e from : ℕ) → from ≤ a → e ≤ a + f → Span rs a e → Rises from (forest rs a e)
   rises zero a e from le l s = subst (Rises from) (sym (forest-none rs law a e (omega arith))) tt
   rises (suc f) a e from le l s =
       ⊎-elim
       (λ h.
-          let up : a < endAt rs a = law .above a (omega (arith, s .in-rows)) in
-          subst (Rises from) (sym (forest-some rs law a e h s)) (le, rises f (endAt rs a) e (a + 1) (omega arith) (omega arith) (span-rest rs law a e h s)))
+      let up : a < endAt rs a = law .above a (omega (arith, s .in-rows)) in
+      subst (Rises from) (sym (forest-some rs law a e h s)) (le, rises f (endAt rs a) e (a + 1) (omega arith) (omega arith) (span-rest rs law a e h s)))
       (λ h. subst (Rises from) (sym (forest-none rs law a e h)) tt)
       (cases-lt a e)
 
@@ -71,8 +71,8 @@ children-are-enclosed-directly rs law j c = (to, back)
     to t =
         ⊎-elim
         (λ up.
-            let n = top rs law (endAt rs j) (j + 1) (endAt rs j) c (omega arith) (span-children rs law j up) t in
-            ((omega (arith, n .low), n .high), λ i x y. n .free i (omega (arith, x .0)) y))
+        let n = top rs law (endAt rs j) (j + 1) (endAt rs j) c (omega arith) (span-children rs law j up) t in
+        ((omega (arith, n .low), n .high), λ i x y. n .free i (omega (arith, x .0)) y))
         (λ down. absurd (subst (Stands c) (forest-none rs law (j + 1) (endAt rs j) (omega arith)) t))
         (cases-lt j (endAt rs j))
 

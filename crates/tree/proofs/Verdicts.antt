@@ -1,6 +1,6 @@
 -- A verdict without a fault is that of a lawful block, and the other way round.
 use Prim.Native.Nat.{ℕ}
-use mathlib.Core.Path.{_≡_, refl}
+use mathlib.Core.Path.{_≡_, refl, subst}
 use mathlib.Core.List.{List}
 use Rattle.std.specs.declared.option.Option.{Option}
 use Rattle.std.specs.declared.option.Option.the-variants.{Some, None}
@@ -9,7 +9,7 @@ use Rattle.tree.specs.declared.refusal.TreeFault.{TreeFault}
 use Rattle.tree.specs.Verdict.{Verdict, accepted, bad-layout, bad-end, bad-depth, bad-shape, bad-text, Lawful, described}
 
 module _ (m : ℕ) (block : List ℕ) where
-  pub lawful : Verdict m block None → Lawful block
+  lawful : Verdict m block None → Lawful block
   lawful (accepted l) = l
 
   refuted : (f : Fault) → Lawful block → Verdict m block (Some f) → ⊥
@@ -22,3 +22,6 @@ module _ (m : ℕ) (block : List ℕ) where
   pub accepts : (o : Option TreeFault) → Verdict m block (described o) → Lawful block → o ≡ None
   accepts None v l = refl
   accepts (Some f) v l = absurd (refuted _ l v)
+
+  pub lawful-from : (o : Option TreeFault) → Verdict m block (described o) → o ≡ None → Lawful block
+  lawful-from o v e = lawful (subst (λ p. Verdict m block (described p)) e v)

@@ -67,7 +67,7 @@ forest rs j e = grown (e - j) rs j e
 abbrev pub children : List Row → ℕ → Forest
 children rs j = forest rs (j + 1) (endAt rs j)
 
--- the siblings after row c among the children of row j
+-- the rows under row j after row c and what row c encloses: the later siblings, where row c is a child of row j
 abbrev pub siblings : List Row → ℕ → ℕ → Forest
 siblings rs c j = cond (ltb j c && ltb c (endAt rs c)) (forest rs (endAt rs c) (endAt rs j)) nil
 

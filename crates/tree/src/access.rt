@@ -27,12 +27,14 @@ impl<'a> Tree<'a> {
     pub fn first_child(&self, j: usize) -> Option<usize>
         ensures is { λ r. ⌜ children (treeRows (now (self .entry))) j ≡ since (treeRows (now (self .entry))) j r ⌝ }
         ensures under { λ r. ⌜ Under (treeRows (now (self .entry))) j r ⌝ }
-        ensures direct { λ _. ⌜ Children-are-enclosed-directly ⌝ ∗ ⌜ Children-stand-in-order ⌝ }
+        ensures direct { λ _. ⌜ Children-are-enclosed-directly ⌝ }
+        ensures ordered { λ _. ⌜ Children-stand-in-order ⌝ }
     {
         self.rows.first_child(j)
     }
 
-    /// The sibling after row c among the children of row j; none where row c does not stand under row j.
+    /// The first row under row j after row c and what row c encloses: the next sibling, where row c is a child of row j.
+    /// None where row c does not stand under row j.
     pub fn next_sibling(&self, c: usize, j: usize) -> Option<usize>
         ensures is { λ r. ⌜ siblings (treeRows (now (self .entry))) c j ≡ since (treeRows (now (self .entry))) j r ⌝ }
         ensures under { λ r. ⌜ Under (treeRows (now (self .entry))) j r ⌝ }
@@ -45,6 +47,7 @@ impl<'a> Tree<'a> {
     pub fn text(&self, j: usize) -> &'a [u8]
         ensures { λ r. ⌜ now r ≡ textAt (treeText (now (self .entry))) (rowAt (treeRows (now (self .entry))) j) ⌝ }
     {
-        self.rows.row(j).text_in(self.text)
+        let row = self.row(j);
+        row.text_in(self.text)
     }
 }

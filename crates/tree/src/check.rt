@@ -13,7 +13,9 @@ use crate::tree::Tree;
 
 /// The first refusal of a block, in five passes over it.
 fn first_fault(module: u32, block: &[u8]) -> Option<TreeFault>
-    ensures { λ r. ⌜ Verdict «module» (now (block .entry)) (described r) ⌝ }
+    ensures verdict { λ r. ⌜ Verdict «module» (now (block .entry)) (described r) ⌝ }
+    ensures accepts { λ r. ⌜ (Lawful (now (block .entry)) → r ≡ None) ⌝ }
+    ensures lawful { λ r. ⌜ (r ≡ None → Lawful (now (block .entry))) ⌝ }
 {
     if !is_lawful_layout(block) {
         return Some(TreeFault::Layout { module });

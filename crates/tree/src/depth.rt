@@ -1,5 +1,6 @@
 //! The depth of rows: at most 256 rows enclose a row.
 ghost use mathlib.Core.Path.{_≡_};
+ghost use lib.Dec.{ltb};
 ghost use lib.ListN.{length};
 ghost use Rattle.tree.specs.Block.{rowsOf};
 ghost use Rattle.tree.specs.Depth.{deep, Shallow};
@@ -8,6 +9,13 @@ ghost use Rattle.tree.specs.Forest.{Nested, children};
 use crate::row::Rows;
 
 const DEEPEST: u32 = 256;
+
+/// Whether so many enclosing rows are too many.
+fn is_too_deep(depth: u32) -> bool
+    ensures { λ r. ⌜ r ≡ ltb 256 depth ⌝ }
+{
+    depth > DEEPEST
+}
 
 impl Rows<'_> {
     /// The first row under row j that more than 256 rows enclose, where `depth` rows enclose the children of row j.
@@ -22,7 +30,7 @@ impl Rows<'_> {
         }
         let mut c = j + 1;
         while c < end {
-            if depth > DEEPEST {
+            if is_too_deep(depth) {
                 return Some(c);
             }
             if let Some(k) = self.first_deep_under(c, depth + 1) {
@@ -34,7 +42,7 @@ impl Rows<'_> {
     }
 
     /// The first row that more than 256 rows enclose.
-    pub fn first_deep(&self) -> Option<usize>
+    pub(crate) fn first_deep(&self) -> Option<usize>
         requires { ⌜ Nested (rowsOf (now self)) ⌝ }
         ensures { λ r. ⌜ First (Shallow (rowsOf (now (self .entry)))) (length (rowsOf (now (self .entry)))) r ⌝ }
     {

@@ -28,7 +28,7 @@ impl Rows<'_> {
     }
 
     /// The first row whose end is unlawful. Each row is looked at as the child of one row only, so this is linear.
-    pub fn first_unlawful_end(&self) -> Option<usize>
+    pub(crate) fn first_unlawful_end(&self) -> Option<usize>
         requires { ⌜ 0 < length (rowsOf (now self)) ⌝ }
         ensures { λ r. ⌜ First (LawfulEnd (rowsOf (now (self .entry)))) (length (rowsOf (now (self .entry)))) r ⌝ }
     {

@@ -1,15 +1,18 @@
 //! Children and siblings, by the ends of rows.
 ghost use mathlib.Core.Path.{_≡_};
 ghost use Rattle.tree.specs.Block.{rowsOf};
+ghost use Rattle.tree.specs.Enclosure.{Children-are-enclosed-directly, Children-stand-in-order};
 ghost use Rattle.tree.specs.Forest.{Nested, Under, children, siblings, since};
 use crate::row::Rows;
 
 impl Rows<'_> {
     /// The first row that row j encloses.
-    pub fn first_child(&self, j: usize) -> Option<usize>
+    pub(crate) fn first_child(&self, j: usize) -> Option<usize>
         requires { ⌜ Nested (rowsOf (now self)) ⌝ }
         ensures is { λ r. ⌜ children (rowsOf (now (self .entry))) j ≡ since (rowsOf (now (self .entry))) j r ⌝ }
         ensures under { λ r. ⌜ Under (rowsOf (now (self .entry))) j r ⌝ }
+        ensures direct { λ _. ⌜ Children-are-enclosed-directly ⌝ }
+        ensures ordered { λ _. ⌜ Children-stand-in-order ⌝ }
     {
         let end = self.end(j);
         if j < end && j + 1 < end {
@@ -20,7 +23,7 @@ impl Rows<'_> {
     }
 
     /// The sibling after row c among the children of row j.
-    pub fn next_sibling(&self, c: usize, j: usize) -> Option<usize>
+    pub(crate) fn next_sibling(&self, c: usize, j: usize) -> Option<usize>
         requires { ⌜ Nested (rowsOf (now self)) ⌝ }
         ensures is { λ r. ⌜ siblings (rowsOf (now (self .entry))) c j ≡ since (rowsOf (now (self .entry))) j r ⌝ }
         ensures under { λ r. ⌜ Under (rowsOf (now (self .entry))) j r ⌝ }

@@ -16,13 +16,13 @@ const LONGEST_ROWS: usize = 1_310_720;
 
 /// The sections of a block.
 #[derive(Clone, Copy)]
-pub struct Sections<'a> {
-    pub rows: Rows<'a>,
-    pub text: &'a [u8],
+pub(crate) struct Sections<'a> {
+    pub(crate) rows: Rows<'a>,
+    pub(crate) text: &'a [u8],
 }
 
 /// Whether the block is neither too short nor too long, and its sections lie in it, one after the other.
-pub fn is_lawful_layout(block: &[u8]) -> bool
+pub(crate) fn is_lawful_layout(block: &[u8]) -> bool
     ensures { λ r. ⌜ Decides r (LawfulLayout (now (block .entry))) ⌝ }
 {
     if block.len() < HEADER || block.len() > LONGEST_BLOCK {
@@ -43,7 +43,7 @@ pub fn is_lawful_layout(block: &[u8]) -> bool
 }
 
 /// The sections of a block with a lawful layout.
-pub fn sections_of(block: &[u8]) -> Sections<'_>
+pub(crate) fn sections_of(block: &[u8]) -> Sections<'_>
     requires { ⌜ LawfulLayout (now block) ⌝ }
     ensures rows { λ r. ⌜ rowsOf (r .rows) ≡ blockRows (now (block .entry)) ⌝ }
     ensures text { λ r. ⌜ now (r .text) ≡ blockText (now (block .entry)) ⌝ }

@@ -13,8 +13,8 @@ pub struct Row {
 
 /// The rows section of a block, and how many rows lie in it.
 #[derive(Clone, Copy)]
-pub struct Rows<'a> {
-    pub section: &'a [u8],
-    pub count: usize,
+pub(crate) struct Rows<'a> {
+    pub(crate) section: &'a [u8],
+    pub(crate) count: usize,
     ghost few: { count ≤ 65536 },
 }

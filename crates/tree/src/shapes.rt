@@ -89,7 +89,7 @@ impl Rows<'_> {
     }
 
     /// The first row that does not fit the table of kinds.
-    pub fn first_unshaped(&self) -> Option<usize>
+    pub(crate) fn first_unshaped(&self) -> Option<usize>
         requires { ⌜ Nested (rowsOf (now self)) ⌝ }
         ensures { λ r. ⌜ First (LawfulShape (rowsOf (now (self .entry)))) (length (rowsOf (now (self .entry)))) r ⌝ }
     {

@@ -23,7 +23,7 @@ impl Row {
     }
 
     /// The text of the row, in a text section.
-    pub fn text_in<'a>(&self, section: &'a [u8]) -> &'a [u8]
+    pub(crate) fn text_in<'a>(&self, section: &'a [u8]) -> &'a [u8]
         ensures { λ r. ⌜ now r ≡ textAt (now (section .entry)) (now (self .entry)) ⌝ }
     {
         part(section, self.offset as usize, self.length as usize)
@@ -43,7 +43,7 @@ impl Row {
 
 impl Sections<'_> {
     /// The first row whose text is unlawful.
-    pub fn first_unlawful_text(&self) -> Option<usize>
+    pub(crate) fn first_unlawful_text(&self) -> Option<usize>
         ensures { λ r. ⌜ First (λ j. LawfulText (now (now (self .entry) .text)) (rowAt (rowsOf (now (self .entry) .rows)) j)) (length (rowsOf (now (self .entry) .rows))) r ⌝ }
     {
         for j in 0..self.rows.count {

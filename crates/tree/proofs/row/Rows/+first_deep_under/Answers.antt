@@ -4,7 +4,7 @@ use mathlib.Core.Bool.{cond}
 use native.Mathlib.Omega.{arith}
 use lib.Dec.{ltb}
 use lib.ListN.{length}
-use Rattle.std.proofs.shelf.Tests.{lt-ltb, le-ltb, cond-true, cond-false}
+use Rattle.std.proofs.shelf.Tests.{cond-true, cond-false}
 use Rattle.std.specs.declared.option.Option.the-variants.{Some, None}
 use Rattle.tree.specs.Block.{rowsOf}
 use Rattle.tree.specs.Forest.{endAt, forest, children}
@@ -22,17 +22,17 @@ loop-c-holds t c =
     let s = c .args .self .now in
     (omega arith, rw (c .end-end .ensures) (span-children (rowsOf s) (c .pre) (c .args .j) (omega arith)), rw (c .end-end .ensures))
 
-pub returns-then-depth-gt-DEEPEST : need.returns-then-depth-gt-DEEPEST
-returns-then-depth-gt-DEEPEST t c =
+pub returns-then-is-too-deep : need.returns-then-is-too-deep
+returns-then-is-too-deep t c =
     let s = c .args .self .now in
     let u = ap (deep (c .args .depth)) (forest-some (rowsOf s) (c .pre) (c .loop-c .c) (c .end-end .result) (c .loop-c-test .taken) (c .loop-c .inv .1)) in
-    sym (c .loop-c .inv .2 ∙ u ∙ cond-true _ _ _ (lt-ltb 256 (c .args .depth) (c .if-depth-gt-DEEPEST .taken)))
+    sym (c .loop-c .inv .2 ∙ u ∙ cond-true _ _ _ (sym (c .if-is-too-deep .ensures tt)))
 
 pub returns-in-Some : need.returns-in-Some
 returns-in-Some t c =
     let s = c .args .self .now in
     let u = ap (deep (c .args .depth)) (forest-some (rowsOf s) (c .pre) (c .loop-c .c) (c .end-end .result) (c .loop-c-test .taken) (c .loop-c .inv .1)) in
-    let v = cond-false _ _ _ (le-ltb 256 (c .args .depth) (c .if-depth-gt-DEEPEST .left)) in
+    let v = cond-false _ _ _ (sym (c .if-is-too-deep .ensures tt)) in
     sym (c .loop-c .inv .2 ∙ u ∙ v ∙ rw (← c .in-Some .ensures tt))
 
 pub loop-c-again : need.loop-c-again
@@ -42,7 +42,7 @@ loop-c-again t c =
     let up = c .pre .above (c .loop-c .c) (omega (arith, c .loop-c .inv .1 .in-rows)) in (
       omega arith,
       rw (c .end-c .ensures) (span-rest (rowsOf s) (c .pre) (c .loop-c .c) (c .end-end .result) (c .loop-c-test .taken) (c .loop-c .inv .1)),
-      c .loop-c .inv .2 ∙ u ∙ cond-false _ _ _ (le-ltb 256 (c .args .depth) (c .if-depth-gt-DEEPEST .left)) ∙ rw (← c .in-rest .ensures tt, c .end-c .ensures),
+      c .loop-c .inv .2 ∙ u ∙ cond-false _ _ _ (sym (c .if-is-too-deep .ensures tt)) ∙ rw (← c .in-rest .ensures tt, c .end-c .ensures),
     )
 
 pub returns : need.returns
