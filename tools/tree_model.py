@@ -52,7 +52,7 @@ TABLE = """
 | 18 | Setter | none | 0 | 1 | no limit | key | any | - |
 | 19 | Method | none | 0 | 2 | 2 | key | Function | - |
 | 20 | Function | none | 0 | 0 | no limit | any but Block | any but Block | any |
-| 21 | FnExpr | none | 0 | 1 | 2 | Ident | Ident (never used) | Function |
+| 21 | FnExpr | none | 0 | 1 | 2 | Ident | - | Function |
 | 22 | Arrow | none | 0 | 1 | no limit | any | any | - |
 | 23 | Block | none | 0 | 0 | no limit | any | any | - |
 | 24 | Return | none | 0 | 0 | 1 | any | - | - |

@@ -1,5 +1,7 @@
 //! Which text, marks and children each kind of row has: the table of docs/TREE.md.
 ghost use mathlib.Core.Path.{_≡_};
+ghost use lib.Dec.{ltb};
+ghost use Rattle.kinds.specs.Table.{Columns-are-the-table};
 ghost use Rattle.kinds.specs.Shape.{has, textOf, highestMark, fewest, most, repeated, firstChild, laterChild, lastChild};
 use crate::kind::*;
 
@@ -30,6 +32,17 @@ pub enum Group {
     Specifier,
     SpecifierOrStr,
     Str,
+}
+
+/// How many kinds there are.
+const KINDS: u32 = 50;
+
+/// Whether a number is a kind. The table of the kinds has a line for each.
+pub fn is_kind(kind: u32) -> bool
+    ensures known { λ r. ⌜ r ≡ ltb kind 50 ⌝ }
+    ensures table { λ _. ⌜ Columns-are-the-table ⌝ }
+{
+    kind < KINDS
 }
 
 impl Group {

@@ -25,7 +25,7 @@ FirstDeep rs a e (Some k) = (a ≤ k) × (k < e) × (256 < depth rs k) × ((j : 
 module _ (rs : List Row) where
   one-more : (i j : ℕ) → j < endAt rs i → enclosing rs (i + 1) j ≡ enclosing rs i j + 1
   unfolding enclosing
-  one-more i j h = rw (add-one, lt-ltb j (endAt rs i) h) (omega arith)
+  one-more i j h = rw (add-one i, lt-ltb j (endAt rs i) h) (omega arith)
 
   no-more : (i j : ℕ) → endAt rs i ≤ j → enclosing rs (suc i) j ≡ enclosing rs i j
   unfolding enclosing

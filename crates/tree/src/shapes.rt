@@ -12,11 +12,10 @@ use kinds::shape::Group;
 use kinds::shape::fewest_children;
 use kinds::shape::first_child_group;
 use kinds::shape::highest_mark;
+use kinds::shape::is_kind;
 use kinds::shape::last_child_group;
 use kinds::shape::later_child_group;
 use kinds::shape::most_children;
-
-const KINDS: u32 = 50;
 
 /// Whether a child of this kind belongs to its group.
 fn child_fits(last: Option<Group>, group: Group, is_last: bool, kind: u32) -> bool
@@ -82,7 +81,7 @@ impl Rows<'_> {
         ensures { λ r. ⌜ r ≡ isShaped (rowsOf (now (self .entry))) j ⌝ }
     {
         let row = self.row(j);
-        row.kind < KINDS
+        is_kind(row.kind)
             && root_is_program(j, row.kind)
             && row.mark <= highest_mark(row.kind)
             && self.children_fit(j)
