@@ -1,18 +1,18 @@
 -- What `deep` finds is the first row that more than 256 rows enclose.
 use Prim.Native.Nat.{ℕ, zero, suc, _+_, _-_, _≤_, _<_}
 use mathlib.Core.Path.{_≡_, refl, sym, ap, _∙_, subst}
-use mathlib.Core.Logic.{inl, inr, ⊎-elim}
+use mathlib.Core.Logic.{⊎-elim}
 use mathlib.Core.Bool.{cond}
 use mathlib.Core.List.{List}
 use native.Mathlib.Omega.{arith}
 use native.Mathlib.Numerals.{add-one}
 use lib.Dec.{ltb}
 use lib.ListN.{length}
-use Rattle.std.proofs.shelf.Tests.{cases-lt, lt-ltb, le-ltb, cond-true, cond-false}
+use Rattle.std.proofs.shelf.Tests.{cases-lt, lt-ltb, le-ltb}
 use Rattle.std.specs.declared.option.Option.{Option}
 use Rattle.std.specs.declared.option.Option.the-variants.{Some, None}
 use Rattle.tree.specs.declared.row.Row.{Row}
-use Rattle.tree.specs.Forest.{Forest, nil, node, forest, rowAt, endAt, children, Nested}
+use Rattle.tree.specs.Forest.{nil, forest, endAt, children, Nested}
 use Rattle.tree.specs.First.{First}
 use Rattle.tree.specs.Depth.{orElse, deep, enclosing, depth, Shallow}
 use Rattle.tree.proofs.Grown.{Span, forest-none, forest-some, span-children-in, span-rest, end-in-rows}

@@ -4,11 +4,10 @@ use mathlib.Core.Path.{_≡_, sym, subst}
 use mathlib.Core.Logic.{_⊎_, inl, inr, ⊎-elim}
 use mathlib.Core.List.{List}
 use native.Mathlib.Omega.{arith}
-use lib.ListN.{length}
 use Rattle.std.proofs.shelf.Tests.{cases-lt}
 use Rattle.tree.specs.declared.row.Row.{Row}
 use Rattle.tree.specs.Enclosure.{Children-are-enclosed-directly, Children-stand-in-order, EnclosesDirectly, Rises, Stands}
-use Rattle.tree.specs.Forest.{Encloses, Forest, Nested, children, endAt, forest, nil, node}
+use Rattle.tree.specs.Forest.{Encloses, Nested, children, endAt, forest}
 use Rattle.tree.proofs.Grown.{Span, forest-none, forest-some, span-children, span-rest}
 
 module _ (rs : List Row) (law : Nested rs) where

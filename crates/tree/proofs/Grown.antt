@@ -7,7 +7,7 @@ use native.Mathlib.Omega.{arith}
 use lib.ListN.{length}
 use Rattle.std.proofs.shelf.Lists.{getD-past}
 use Rattle.std.proofs.shelf.Tests.{cases-lt, lt-ltb, le-ltb, cond-true, cond-false, and-from, and-left, and-right}
-use Rattle.std.specs.declared.option.Option.the-variants.{Some, None}
+use Rattle.std.specs.declared.option.Option.the-variants.{Some}
 use Rattle.tree.specs.declared.row.Row.{Row}
 use Rattle.tree.specs.Forest.{Forest, nil, node, forced, grown, forest, blank, rowAt, endAt, children, siblings, since, LawfulEnd, Nested}
 

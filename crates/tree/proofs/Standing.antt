@@ -1,25 +1,19 @@
 -- What stands of every tree: the invariant of a block that is lawful, and that of the empty script.
-use Prim.Native.Nat.{ℕ, zero, suc, _/_, _≤_, _<_}
-use denote.Ref.{now}
-use mathlib.Core.Path.{_≡_, refl, sym, ap, subst, _∙_}
+use Prim.Native.Nat.{ℕ, zero, suc, _/_, _<_}
+use mathlib.Core.Path.{_≡_, refl, sym, subst}
 use mathlib.Core.List.{List, [], _∷_}
 use native.Mathlib.Omega.{arith}
 use lib.ListN.{length}
 use Rattle.text.specs.Place.{stretch}
 use Rattle.tree.specs.declared.row.Row.{Row}
-use Rattle.tree.specs.declared.tree.Tree.{Tree}
 use Rattle.tree.specs.Block.{rows, rowsIn, rowsLength, rowsOffset, text}
 use Rattle.tree.specs.Depth.{Shallow, enclosing}
-use Rattle.tree.specs.Forest.{Above, Within, Whole, Nested, rowAt, forest, grown}
+use Rattle.tree.specs.Forest.{Above, Within, Whole, rowAt, forest, grown}
 use Rattle.tree.specs.Shaped.{LawfulShape}
-use Rattle.tree.specs.Subject.{treeRows}
 use Rattle.tree.specs.Texts.{LawfulText}
 use Rattle.tree.specs.Verdict.{Lawful}
 use Rattle.tree.proofs.Grown.{nested}
 use Rattle.tree.proofs.Sections.{length-rows}
-
-pub nested-of : (t : Tree) → Nested (treeRows t)
-nested-of t = record { above = t .above; within = t .within; whole = t .whole }
 
 -- the facts in the type of a tree, as its maker owes them
 abbrev pub Facts : List Row → List ℕ → Type 0

@@ -1,4 +1,5 @@
 -- The check of a tree block: when it is accepted, and which refusal it gets otherwise.
+use mathlib.Core.Path.{_≡_}
 use mathlib.Core.List.{List}
 use Prim.Native.Nat.{ℕ}
 use lib.ListN.{length}
@@ -64,3 +65,7 @@ pub data Verdict (m : ℕ) (block : List ℕ) : Option Fault → Type 0 where
   bad-depth : (k : ℕ) → LawfulLayout block → FirstOf block (Ends block) None → FirstOf block (Depths block) (Some k) → Verdict m block (Some (treeFault 3 m k))
   bad-shape : (k : ℕ) → LawfulLayout block → FirstOf block (Ends block) None → FirstOf block (Depths block) None → FirstOf block (Shapes block) (Some k) → Verdict m block (Some (treeFault 4 m k))
   bad-text : (k : ℕ) → LawfulLayout block → FirstOf block (Ends block) None → FirstOf block (Depths block) None → FirstOf block (Shapes block) None → FirstOf block (Texts block) (Some k) → Verdict m block (Some (treeFault 5 m k))
+
+-- one block has one verdict
+abbrev pub One-verdict : Type 0
+One-verdict = (m : ℕ) (block : List ℕ) (a b : Option Fault) → Verdict m block a → Verdict m block b → a ≡ b

@@ -1,15 +1,9 @@
-use Prim.Native.Nat.{_+_, _<_, _≤_}
-use mathlib.Core.Path.{_≡_, refl, sym, ap, _∙_}
-use mathlib.Core.Bool.{cond}
+use mathlib.Core.Path.{sym, ap, _∙_}
 use native.Mathlib.Omega.{arith}
-use lib.Dec.{ltb}
-use lib.ListN.{length}
 use Rattle.std.proofs.shelf.Tests.{cond-true, cond-false}
-use Rattle.std.specs.declared.option.Option.the-variants.{Some, None}
 use Rattle.tree.specs.Block.{rowsOf}
-use Rattle.tree.specs.Forest.{endAt, forest, children}
-use Rattle.tree.specs.Depth.{deep, orElse}
-use Rattle.tree.proofs.Grown.{Span, forest-none, forest-some, span-children, span-rest}
+use Rattle.tree.specs.Depth.{deep}
+use Rattle.tree.proofs.Grown.{forest-none, forest-some, span-children, span-rest}
 use Rattle.tree.proofs.row.Rows.+first_deep_under.Needs as need
 
 pub returns-then-end-j : need.returns-then-end-j

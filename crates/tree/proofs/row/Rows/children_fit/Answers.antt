@@ -1,10 +1,8 @@
-use Prim.Native.Nat.{_≤_, _+_, _<_}
-use mathlib.Core.Path.{_≡_, sym, ap, subst, _∙_}
+use mathlib.Core.Path.{sym, ap, subst, _∙_}
 use native.Mathlib.Omega.{arith}
-use lib.ListN.{length}
 use Rattle.std.specs.declared.option.Option.the-variants.{Some}
 use Rattle.tree.specs.Block.{rowsOf}
-use Rattle.tree.specs.Forest.{Under, children, rowAt}
+use Rattle.tree.specs.Forest.{Under, children}
 use Rattle.tree.specs.Shaped.{childrenFit, kindsOf}
 use Rattle.tree.proofs.Fits.{Passed, fitFrom, fit-start, fit-end, passed-none, passed-one, child-fits}
 use Rattle.tree.proofs.Sections.{counted}
