@@ -1,6 +1,6 @@
 //! The program that a tree holds, and the script test.
 ghost use mathlib.Core.Path.{_≡_};
-ghost use Rattle.findings.specs.Script.{firstShows, isScript, programKind, showsModule, showsScript};
+ghost use Rattle.findings.specs.Script.{First-telling-child-decides, firstShows, isScript, programKind, showsModule, showsScript};
 ghost use Rattle.tree.specs.Forest.{children};
 ghost use Rattle.tree.specs.Subject.{treeRows};
 use kinds::kind::*;
@@ -57,7 +57,8 @@ impl<'a> ProgramRef<'a> {
 
     /// Whether the program is treated as a script: a module is where its first child that tells shows a script.
     pub fn compute_is_script(&self) -> bool
-        ensures { λ r. ⌜ r ≡ isScript (treeRows (now (now (self .entry) .tree))) ⌝ }
+        ensures is { λ r. ⌜ r ≡ isScript (treeRows (now (now (self .entry) .tree))) ⌝ }
+        ensures first { λ _. ⌜ First-telling-child-decides ⌝ }
     {
         match self.kind() {
             ProgramKind::Module => self.children_show_script(),

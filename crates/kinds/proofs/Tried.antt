@@ -24,6 +24,7 @@ tried = (refl, (refl, (refl, (refl, (refl, (refl, (refl, (refl, (refl, (refl, (r
 
 pub columns-are-the-table : Columns-are-the-table
 columns-are-the-table = record {
+  lines = refl;
   modules = at (λ kind. columns kind 0 ≡ getD table kind noLine) 50 tried;
   other-marks = λ kind mark no-program. let e : eqb kind program ≡ false = ne-eqb kind program no-program in rw e;
   scripts = refl;

@@ -2,7 +2,7 @@
 use mathlib.Core.Path.{_≡_}
 use mathlib.Core.List.{List, [], _∷_}
 use Prim.Native.Nat.{ℕ, _<_}
-use lib.ListN.{getD}
+use lib.ListN.{getD, length}
 use Rattle.std.specs.declared.option.Option.{Option}
 use Rattle.std.specs.declared.option.Option.the-variants.{Some, None}
 use Rattle.kinds.specs.declared.shape.Group.{Group}
@@ -99,6 +99,7 @@ columns kind mark = line (textOf kind) (highestMark kind) (fewest kind) (most ki
 
 -- the columns make up the table, but that the children of a script differ from those of a module
 pub record Columns-are-the-table : Type 0 where
+  pub lines : length table ≡ 50
   pub modules : (kind : ℕ) → kind < 50 → columns kind 0 ≡ getD table kind noLine
   pub other-marks : (kind mark : ℕ) → (kind ≡ program → ⊥) → columns kind mark ≡ columns kind 0
   pub scripts : columns program 1 ≡ scriptLine

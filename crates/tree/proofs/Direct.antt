@@ -1,12 +1,12 @@
 -- The rows at the top of a tree are those that no other row of it encloses, in order.
 use Prim.Native.Nat.{ℕ, zero, suc, _+_, _≤_, _<_}
-use mathlib.Core.Path.{_≡_, sym, subst}
+use mathlib.Core.Path.{_≡_, refl, sym, subst}
 use mathlib.Core.Logic.{_⊎_, inl, inr, ⊎-elim}
 use mathlib.Core.List.{List}
 use native.Mathlib.Omega.{arith}
 use Rattle.std.proofs.shelf.Tests.{cases-lt}
 use Rattle.tree.specs.declared.row.Row.{Row}
-use Rattle.tree.specs.Enclosure.{Children-are-enclosed-directly, Children-stand-in-order, EnclosesDirectly, Rises, Stands}
+use Rattle.tree.specs.Enclosure.{Carries, Children-are-enclosed-directly, Children-carry-their-rows, Children-stand-in-order, EnclosesDirectly, Rises, Stands}
 use Rattle.tree.specs.Forest.{Encloses, Nested, children, endAt, forest}
 use Rattle.tree.proofs.Grown.{Span, forest-none, forest-some, span-children, span-rest}
 
@@ -63,6 +63,16 @@ module _ (rs : List Row) (law : Nested rs) where
       (λ h. subst (Rises from) (sym (forest-none rs law a e h)) tt)
       (cases-lt a e)
 
+  carries : (f a e : ℕ) → e ≤ a + f → Span rs a e → Carries rs (forest rs a e)
+  carries zero a e l s = subst (Carries rs) (sym (forest-none rs law a e (omega arith))) tt
+  carries (suc f) a e l s =
+      ⊎-elim
+      (λ h.
+      let up : a < endAt rs a = law .above a (omega (arith, s .in-rows)) in
+      subst (Carries rs) (sym (forest-some rs law a e h s)) (refl, refl, carries f (endAt rs a) e (omega arith) (span-rest rs law a e h s)))
+      (λ h. subst (Carries rs) (sym (forest-none rs law a e h)) tt)
+      (cases-lt a e)
+
 pub children-are-enclosed-directly : Children-are-enclosed-directly
 children-are-enclosed-directly rs law j c = (to, back)
   where
@@ -85,4 +95,11 @@ children-stand-in-order rs law j =
     ⊎-elim
     (λ up. rises rs law (endAt rs j) (j + 1) (endAt rs j) (j + 1) (omega arith) (omega arith) (span-children rs law j up))
     (λ down. subst (Rises (j + 1)) (sym (forest-none rs law (j + 1) (endAt rs j) (omega arith))) tt)
+    (cases-lt j (endAt rs j))
+
+pub children-carry-their-rows : Children-carry-their-rows
+children-carry-their-rows rs law j =
+    ⊎-elim
+    (λ up. carries rs law (endAt rs j) (j + 1) (endAt rs j) (omega arith) (span-children rs law j up))
+    (λ down. subst (Carries rs) (sym (forest-none rs law (j + 1) (endAt rs j) (omega arith))) tt)
     (cases-lt j (endAt rs j))

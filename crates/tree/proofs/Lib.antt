@@ -6,4 +6,5 @@ mod Fits
 pub mod Standing
 mod Verdicts
 pub mod Rising
-mod Direct
+pub mod Direct
+mod Positions

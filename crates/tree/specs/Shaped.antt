@@ -2,10 +2,11 @@
 use mathlib.Core.Path.{_≡_}
 use mathlib.Core.Bool.{Bool, true, false, cond, not, _&&_}
 use mathlib.Core.List.{List, [], _∷_}
-use Prim.Native.Nat.{ℕ}
+use Prim.Native.Nat.{ℕ, _+_, _<_}
 use lib.Dec.{eqb, leb, ltb}
-use lib.ListN.{length}
+use lib.ListN.{getD, length}
 use Rattle.std.specs.Options.{valueOr}
+use Rattle.std.specs.Orderings.{Decides}
 use Rattle.std.specs.declared.option.Option.{Option}
 use Rattle.std.specs.declared.option.Option.the-variants.{Some, None}
 use Rattle.kinds.specs.declared.shape.Group.{Group}
@@ -58,3 +59,13 @@ isShaped rs j =
 
 abbrev pub LawfulShape : List Row → ℕ → Type 0
 LawfulShape rs j = isShaped rs j ≡ true
+
+-- the group of the child at place p of n
+abbrev pub groupAt : Row → ℕ → ℕ → Group
+groupAt r p n = groupFor (lastChild (r .kind)) (cond (eqb p 0) (firstChild (r .kind) (r .mark)) (laterChild (r .kind) (r .mark))) (eqb (p + 1) n)
+
+-- children fit exactly where a row may have so many, and the child at each place belongs to the group of that place
+abbrev pub Children-fit-by-place : Type 0
+Children-fit-by-place =
+    (r : Row) (ks : List ℕ) →
+    Decides (childrenFit r ks) ((mayHave (r .kind) (length ks) ≡ true) × ((p : ℕ) → p < length ks → has (groupAt r p (length ks)) (getD ks p 0) ≡ true))

@@ -1,7 +1,7 @@
 //! What a tree is asked: its rows, their children and siblings, their texts.
 ghost use mathlib.Core.Path.{_≡_};
 ghost use lib.ListN.{length};
-ghost use Rattle.tree.specs.Enclosure.{Children-are-enclosed-directly, Children-stand-in-order};
+ghost use Rattle.tree.specs.Enclosure.{Children-are-enclosed-directly, Children-carry-their-rows, Children-stand-in-order};
 ghost use Rattle.tree.specs.Forest.{Under, children, rowAt, siblings, since};
 ghost use Rattle.tree.specs.Subject.{treeRows, treeText};
 ghost use Rattle.tree.specs.Texts.{textAt};
@@ -29,6 +29,7 @@ impl<'a> Tree<'a> {
         ensures under { λ r. ⌜ Under (treeRows (now (self .entry))) j r ⌝ }
         ensures direct { λ _. ⌜ Children-are-enclosed-directly ⌝ }
         ensures ordered { λ _. ⌜ Children-stand-in-order ⌝ }
+        ensures carried { λ _. ⌜ Children-carry-their-rows ⌝ }
     {
         self.rows.first_child(j)
     }

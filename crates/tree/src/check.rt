@@ -2,6 +2,7 @@
 ghost use mathlib.Core.Path.{_≡_};
 ghost use Rattle.std.specs.declared.option.Option.the-variants.{Some, None};
 ghost use Rattle.std.specs.declared.result.Result.the-variants.{Ok, Err};
+ghost use Rattle.tree.specs.Shaped.{Children-fit-by-place};
 ghost use Rattle.tree.specs.Subject.{TreeOf};
 ghost use Rattle.tree.specs.Verdict.{Lawful, One-verdict, Verdict, described};
 use crate::layout::is_lawful_layout;
@@ -17,6 +18,7 @@ fn first_fault(module: u32, block: &[u8]) -> Option<TreeFault>
     ensures accepts { λ r. ⌜ (Lawful (now (block .entry)) → r ≡ None) ⌝ }
     ensures lawful { λ r. ⌜ (r ≡ None → Lawful (now (block .entry))) ⌝ }
     ensures one { λ _. ⌜ One-verdict ⌝ }
+    ensures shapes { λ _. ⌜ Children-fit-by-place ⌝ }
 {
     if !is_lawful_layout(block) {
         return Some(TreeFault::Layout { module });
@@ -71,6 +73,7 @@ impl<'a> Tree<'a> {
         ensures verdict { λ r. ⌜ Verdict «module» (now (block .entry)) (described (r .fault)) ⌝ }
         ensures accepts { λ r. ⌜ (Lawful (now (block .entry)) → r .fault ≡ None) ⌝ }
         ensures one { λ _. ⌜ One-verdict ⌝ }
+        ensures shapes { λ _. ⌜ Children-fit-by-place ⌝ }
         ensures tree { λ r. ⌜ (r .fault ≡ None → TreeOf (now (block .entry)) (r .tree)) ⌝ }
     {
         match first_fault(module, block) {

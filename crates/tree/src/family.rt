@@ -1,7 +1,7 @@
 //! Children and siblings, by the ends of rows.
 ghost use mathlib.Core.Path.{_≡_};
 ghost use Rattle.tree.specs.Block.{rowsOf};
-ghost use Rattle.tree.specs.Enclosure.{Children-are-enclosed-directly, Children-stand-in-order};
+ghost use Rattle.tree.specs.Enclosure.{Children-are-enclosed-directly, Children-carry-their-rows, Children-stand-in-order};
 ghost use Rattle.tree.specs.Forest.{Nested, Under, children, siblings, since};
 use crate::row::Rows;
 
@@ -13,6 +13,7 @@ impl Rows<'_> {
         ensures under { λ r. ⌜ Under (rowsOf (now (self .entry))) j r ⌝ }
         ensures direct { λ _. ⌜ Children-are-enclosed-directly ⌝ }
         ensures ordered { λ _. ⌜ Children-stand-in-order ⌝ }
+        ensures carried { λ _. ⌜ Children-carry-their-rows ⌝ }
     {
         let end = self.end(j);
         if j < end && j + 1 < end {

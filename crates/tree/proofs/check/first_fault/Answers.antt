@@ -18,6 +18,7 @@ use Rattle.tree.specs.Shaped.{LawfulShape}
 use Rattle.tree.specs.Texts.{LawfulText}
 use Rattle.tree.specs.Verdict.{Verdict, accepted, bad-layout, bad-end, bad-depth, bad-shape, bad-text, described, FirstOf, Ends, Depths, Shapes, Texts}
 use Rattle.tree.proofs.Grown.{nested}
+use Rattle.tree.proofs.Positions.{children-fit-by-place}
 use Rattle.tree.proofs.Sections.{length-rows}
 use Rattle.tree.proofs.Verdicts.{accepts, lawful-from, one-verdict}
 use Rattle.tree.proofs.check.first_fault.Needs as need
@@ -45,7 +46,7 @@ pub returns-then-not-is-lawful-layout : need.returns-then-not-is-lawful-layout
 returns-then-not-is-lawful-layout c =
     let o : Option TreeFault = (Some (Layout (c .args .module))) in
     let v : Verdict (c .args .module) (now (c .args .block)) (described o) = bad-layout (λ l. both-ways _ (c .if-not-is-lawful-layout .taken) (c .is-lawful-layout .ensures .1 l)) in
-    record { verdict = v; accepts = accepts (c .args .module) (now (c .args .block)) o v; lawful = lawful-from (c .args .module) (now (c .args .block)) o v; one = one-verdict }
+    record { verdict = v; accepts = accepts (c .args .module) (now (c .args .block)) o v; lawful = lawful-from (c .args .module) (now (c .args .block)) o v; one = one-verdict; shapes = children-fit-by-place }
 
 pub first-unlawful-end-requires : need.first-unlawful-end-requires
 first-unlawful-end-requires c κs = some-rows _ (c .is-lawful-layout .ensures .0 (c .if-not-is-lawful-layout .left)) _ (c .sections-of-sections .ensures .rows)
@@ -55,7 +56,7 @@ returns-in-Some c =
     let s = c .sections-of-sections .ensures in
     let o : Option TreeFault = (Some (End (c .args .module) (c .in-Some .row))) in
     let v : Verdict (c .args .module) (now (c .args .block)) (described o) = bad-end _ (c .is-lawful-layout .ensures .0 (c .if-not-is-lawful-layout .left)) (ends (now (c .args .block)) _ _ (s .rows) (s .text) (Some _) (c .in-Some .ensures tt)) in
-    record { verdict = v; accepts = accepts (c .args .module) (now (c .args .block)) o v; lawful = lawful-from (c .args .module) (now (c .args .block)) o v; one = one-verdict }
+    record { verdict = v; accepts = accepts (c .args .module) (now (c .args .block)) o v; lawful = lawful-from (c .args .module) (now (c .args .block)) o v; one = one-verdict; shapes = children-fit-by-place }
 
 pub first-deep-requires : need.first-deep-requires
 first-deep-requires c κs = nested _ (c .in-rest .ensures tt)
@@ -65,7 +66,7 @@ returns-in-Some-first-deep c =
     let s = c .sections-of-sections .ensures in
     let o : Option TreeFault = (Some (Depth (c .args .module) (c .in-Some-first-deep .row))) in
     let v : Verdict (c .args .module) (now (c .args .block)) (described o) = bad-depth _ (c .is-lawful-layout .ensures .0 (c .if-not-is-lawful-layout .left)) (ends (now (c .args .block)) _ _ (s .rows) (s .text) None (c .in-rest .ensures tt)) (depths (now (c .args .block)) _ _ (s .rows) (s .text) (Some _) (c .in-Some-first-deep .ensures tt)) in
-    record { verdict = v; accepts = accepts (c .args .module) (now (c .args .block)) o v; lawful = lawful-from (c .args .module) (now (c .args .block)) o v; one = one-verdict }
+    record { verdict = v; accepts = accepts (c .args .module) (now (c .args .block)) o v; lawful = lawful-from (c .args .module) (now (c .args .block)) o v; one = one-verdict; shapes = children-fit-by-place }
 
 pub first-unshaped-requires : need.first-unshaped-requires
 first-unshaped-requires c κs = nested _ (c .in-rest .ensures tt)
@@ -75,18 +76,18 @@ returns-in-Some-first-unshaped c =
     let s = c .sections-of-sections .ensures in
     let o : Option TreeFault = (Some (Shape (c .args .module) (c .in-Some-first-unshaped .row))) in
     let v : Verdict (c .args .module) (now (c .args .block)) (described o) = bad-shape _ (c .is-lawful-layout .ensures .0 (c .if-not-is-lawful-layout .left)) (ends (now (c .args .block)) _ _ (s .rows) (s .text) None (c .in-rest .ensures tt)) (depths (now (c .args .block)) _ _ (s .rows) (s .text) None (c .in-rest-first-deep .ensures tt)) (shapes (now (c .args .block)) _ _ (s .rows) (s .text) (Some _) (c .in-Some-first-unshaped .ensures tt)) in
-    record { verdict = v; accepts = accepts (c .args .module) (now (c .args .block)) o v; lawful = lawful-from (c .args .module) (now (c .args .block)) o v; one = one-verdict }
+    record { verdict = v; accepts = accepts (c .args .module) (now (c .args .block)) o v; lawful = lawful-from (c .args .module) (now (c .args .block)) o v; one = one-verdict; shapes = children-fit-by-place }
 
 pub returns-in-Some-first-unlawful-text : need.returns-in-Some-first-unlawful-text
 returns-in-Some-first-unlawful-text c =
     let s = c .sections-of-sections .ensures in
     let o : Option TreeFault = (Some (Text (c .args .module) (c .in-Some-first-unlawful-text .row))) in
     let v : Verdict (c .args .module) (now (c .args .block)) (described o) = bad-text _ (c .is-lawful-layout .ensures .0 (c .if-not-is-lawful-layout .left)) (ends (now (c .args .block)) _ _ (s .rows) (s .text) None (c .in-rest .ensures tt)) (depths (now (c .args .block)) _ _ (s .rows) (s .text) None (c .in-rest-first-deep .ensures tt)) (shapes (now (c .args .block)) _ _ (s .rows) (s .text) None (c .in-rest-first-unshaped .ensures tt)) (texts (now (c .args .block)) _ _ (s .rows) (s .text) (Some _) (c .in-Some-first-unlawful-text .ensures tt)) in
-    record { verdict = v; accepts = accepts (c .args .module) (now (c .args .block)) o v; lawful = lawful-from (c .args .module) (now (c .args .block)) o v; one = one-verdict }
+    record { verdict = v; accepts = accepts (c .args .module) (now (c .args .block)) o v; lawful = lawful-from (c .args .module) (now (c .args .block)) o v; one = one-verdict; shapes = children-fit-by-place }
 
 pub returns : need.returns
 returns c =
     let s = c .sections-of-sections .ensures in
     let o : Option TreeFault = None in
     let v : Verdict (c .args .module) (now (c .args .block)) (described o) = accepted (record { layout = (c .is-lawful-layout .ensures .0 (c .if-not-is-lawful-layout .left)); ends = (ends (now (c .args .block)) _ _ (s .rows) (s .text) None (c .in-rest .ensures tt)); depths = (depths (now (c .args .block)) _ _ (s .rows) (s .text) None (c .in-rest-first-deep .ensures tt)); shapes = (shapes (now (c .args .block)) _ _ (s .rows) (s .text) None (c .in-rest-first-unshaped .ensures tt)); texts = (texts (now (c .args .block)) _ _ (s .rows) (s .text) None (c .in-rest-first-unlawful-text .ensures tt)) }) in
-    record { verdict = v; accepts = accepts (c .args .module) (now (c .args .block)) o v; lawful = lawful-from (c .args .module) (now (c .args .block)) o v; one = one-verdict }
+    record { verdict = v; accepts = accepts (c .args .module) (now (c .args .block)) o v; lawful = lawful-from (c .args .module) (now (c .args .block)) o v; one = one-verdict; shapes = children-fit-by-place }

@@ -1,6 +1,6 @@
 use native.Mathlib.Omega.{arith}
 use Rattle.tree.specs.Block.{rowsOf}
-use Rattle.tree.proofs.Direct.{children-are-enclosed-directly, children-stand-in-order}
+use Rattle.tree.proofs.Direct.{children-are-enclosed-directly, children-carry-their-rows, children-stand-in-order}
 use Rattle.tree.proofs.Grown.{children-some, span-children, forest-none}
 use Rattle.tree.proofs.row.Rows.first_child.Needs as need
 
@@ -12,7 +12,8 @@ returns-then-j-end-2 c =
       under = (omega arith, omega (arith, span-children rs (c .pre) (c .args .j) (omega arith) .in-rows));
       direct = children-are-enclosed-directly;
       ordered = children-stand-in-order;
+      carried = children-carry-their-rows;
     }
 
 pub returns-else-j-end : need.returns-else-j-end
-returns-else-j-end c = record { is = forest-none (rowsOf (c .args .self .now)) (c .pre) _ _ (omega arith); under = tt; direct = children-are-enclosed-directly; ordered = children-stand-in-order }
+returns-else-j-end c = record { is = forest-none (rowsOf (c .args .self .now)) (c .pre) _ _ (omega arith); under = tt; direct = children-are-enclosed-directly; ordered = children-stand-in-order; carried = children-carry-their-rows }
