@@ -15,4 +15,4 @@ pub use reading::compare_loose;
 pub use reading::equal_loose;
 pub use reading::plain_of;
 pub use reading::write_loose;
-pub use word::is;
+pub use word::is_word;

@@ -4,7 +4,7 @@ use std::io::Error;
 use text::Place;
 use text::compare_loose;
 use text::equal_loose;
-use text::is;
+use text::is_word;
 use text::is_utf8;
 use text::is_wtf8;
 use text::part;
@@ -93,5 +93,5 @@ pub fn show_word(rt: LibcRuntime, text: &[u8], word: &[u8]) -> Result<(), Error>
     print!(rt, "word")?;
     print_hex(rt, text)?;
     print_hex(rt, word)?;
-    println!(rt, " {}", is(text, word))
+    println!(rt, " {}", is_word(text, word))
 }
