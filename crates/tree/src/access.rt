@@ -44,6 +44,14 @@ impl<'a> Tree<'a> {
         self.rows.next_sibling(c, j)
     }
 
+    /// The text section, which outlives the borrow of the tree.
+    pub fn text_section(&self) -> &'a [u8]
+        ensures { λ r. ⌜ now r ≡ treeText (now (self .entry)) ⌝ }
+    {
+        let section = self.text;
+        section
+    }
+
     /// The text of row j, which outlives the borrow of the tree; empty where the row has none.
     pub fn text(&self, j: usize) -> &'a [u8]
         ensures { λ r. ⌜ now r ≡ textAt (treeText (now (self .entry))) (rowAt (treeRows (now (self .entry))) j) ⌝ }

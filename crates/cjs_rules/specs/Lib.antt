@@ -1,0 +1,5 @@
+pub mod Chain
+pub mod Nodes
+pub mod Words
+pub mod Names
+pub mod Rules

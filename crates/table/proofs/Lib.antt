@@ -1,0 +1,7 @@
+pub mod Totals
+mod Places
+mod Removes
+mod Checks
+mod Inserts
+mod Tables
+mod Zeros

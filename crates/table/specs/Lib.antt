@@ -1,0 +1,4 @@
+pub mod Order
+pub mod Table
+pub mod Kind
+pub mod Kinds
