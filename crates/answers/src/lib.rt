@@ -6,4 +6,6 @@ pub use answer::Answer;
 pub use answer::AnswerDisplay;
 pub use answer::answer_for;
 pub use answer::answer_too_long;
+pub use stream::Announcement;
+pub use stream::announced;
 pub use stream::answer_stream;

@@ -39,6 +39,9 @@ fn blocks(rt: &LibcRuntime) -> io::Result<()> {
 fn streams(rt: &LibcRuntime) -> io::Result<()> {
     let heap = rt.alloc();
     show_stream(rt, "no block", b"")?;
+    show_stream(rt, "one byte of a length", b"\x00")?;
+    show_stream(rt, "two bytes of a length", b"\x00\x00")?;
+    show_stream(rt, "three bytes of a length", b"\x00\x00\x00")?;
     show_stream(rt, "a length cut short", b"\x10\x00\x00")?;
     show_stream(
         rt,
