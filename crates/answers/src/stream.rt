@@ -14,7 +14,7 @@ use std::io::Write;
 use text::read_le32;
 
 /// Longer blocks are refused whatever they hold, so they are read past and not kept.
-const LONGEST_BLOCK: usize = 4_194_304;
+pub const LONGEST_BLOCK: usize = 4_194_304;
 
 /// What the bytes that a stream gave of a length announce.
 #[derive(Clone, Copy)]
