@@ -7,4 +7,4 @@ pub returns : need.returns
 returns c =
     let t = c .in-Continue-tree .ensures tt in
     let o = c .check-checked .ensures .tree (t .1) in
-    (o .lawful, c .compute-is-script .ensures ∙ ap (λ x. isScript (treeRows x)) (c .new .ensures ∙ t .0) ∙ ap isScript (o .same-rows))
+    (o .lawful, c .compute-is-script .ensures .is ∙ ap (λ x. isScript (treeRows x)) (c .new .ensures ∙ t .0) ∙ ap isScript (o .same-rows))
