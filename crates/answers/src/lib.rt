@@ -1,4 +1,6 @@
 //! One line for each tree block: what the program answers, from a block's bytes to the text of the line.
+#![tactic(auto)]
+
 mod answer;
 mod report;
 mod stream;

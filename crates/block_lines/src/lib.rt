@@ -1,4 +1,6 @@
 //! What the program answers for a tree block: from the block's bytes to the characters of a line.
+#![tactic(auto)]
+
 mod analyses;
 mod answer;
 mod lines;

@@ -1,4 +1,6 @@
 //! Blocks at the bounds that are too large to keep in a file, each with its answer.
+#![tactic(auto)]
+
 mod build;
 
 use answers::{answer_for, answer_stream};

@@ -1,4 +1,6 @@
 //! What the walk over a tree does, and what its acts come to: definitions and laws, for the code of the CommonJS analysis.
+#![tactic(auto)]
+
 ghost use Rattle.cjs_law.specs.Laws.{ActsDecideTheLists};
 ghost use Rattle.cjs_law.specs.Walk.{WalkReachesWhatIsNotSkipped};
 

@@ -1,4 +1,6 @@
 //! The CommonJS analysis: one walk over a tree that fills the findings tables. docs/FINDINGS.md has the rules.
+#![tactic(auto)]
+
 mod add;
 mod analysis;
 mod bound;

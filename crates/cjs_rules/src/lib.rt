@@ -1,4 +1,6 @@
 //! The rules of CommonJS exports, one function for each helper of the ported source, under its name.
+#![tactic(auto)]
+
 pub mod calls;
 pub mod exports_object;
 pub mod harmless;

@@ -1,4 +1,6 @@
 //! Export names of tree blocks: `export_names tree FILE` for people, `export_names findings [B E R U]` for machines.
+#![tactic(auto)]
+
 ghost use Rattle.std.specs.Prelude.{◌≡◌, ◌||◌, ◌==◌};
 
 use answers::{LONGEST_BLOCK, answer_stream, report_for};

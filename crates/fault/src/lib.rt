@@ -1,4 +1,6 @@
 //! Faults: how a refused call is described, whatever layer refused it. docs/FAULTS.md lists them all.
+#![tactic(auto)]
+
 ghost use Rattle.std.specs.Prelude.{Some};
 ghost use Rattle.fault.specs.Line.{fault_line};
 

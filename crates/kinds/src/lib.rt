@@ -1,3 +1,5 @@
 //! The kinds of rows, and which text, marks and children each has. docs/TREE.md has the table.
+#![tactic(auto)]
+
 pub mod kind;
 pub mod shape;

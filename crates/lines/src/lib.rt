@@ -1,4 +1,6 @@
 //! Lists of places as programs print them, proved down to the character. Nothing here allocates.
+#![tactic(auto)]
+
 mod listed;
 mod places;
 mod texts;

@@ -1,4 +1,6 @@
 //! Answers the stream of blocks in this crate's `stdin`, which tools/tree_cases.py makes with the answers in `stdout`.
+#![tactic(auto)]
+
 use answers::answer_stream;
 use std::io;
 use std::io::{BufReader, BufWriter, Write};

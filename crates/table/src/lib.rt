@@ -1,4 +1,6 @@
 //! The one ordered table: rows of any kind, kept in strictly rising order of their keys, in memory that the caller lends.
+#![tactic(auto)]
+
 mod binding;
 mod loose_end;
 mod place;

@@ -1,7 +1,8 @@
 -- The order of lists of bytes: it tells different lists apart.
 use Rattle.std.proofs.Common.{◌≡◌, ℕ, ◌<◌, List, [], ◌∷◌, Ordering, Less, Equal, Greater, sym, refl, ap, ◌∙◌, subst, arith}
-use Rattle.std.specs.Ordering.{ordering_then, MatchOrdering}
-use Rattle.std.specs.Cmp.{ranks, nat_cmp_total}
+use Rattle.std.specs.Prelude.{Bool, Decides, ◌==◌}
+use Rattle.std.specs.Ordering.{ordering_index, ordering_then, MatchOrdering}
+use Rattle.std.specs.Cmp.{Equal-is, ranks, nat_cmp_total, tied_itself}
 use Rattle.text.specs.Reading.{order, loose}
 use Rattle.text.specs.Laws.{by_loose, LooseOrderIsTotal}
 
@@ -27,7 +28,13 @@ order_same (x ∷ xs) (y ∷ ys) e =
 
 pub order_self : (xs : List ℕ) → order xs xs ≡ Equal
 order_self [] = refl
-order_self (x ∷ xs) = ap (λ k. ordering_then k (order xs xs)) (sym (nat_cmp_total.says x x Equal refl)) ∙ order_self xs
+order_self (x ∷ xs) = ap (λ k. ordering_then k (order xs xs)) (tied_itself nat_cmp_total x) ∙ order_self xs
+
+-- the derived test against Equal, by the order's index
+pub is_equal : (b : Bool) (r : Ordering) → b ≡ (ordering_index r == 1) → Decides b (r ≡ Equal)
+is_equal b Less e = rw (e) (Equal-is Less)
+is_equal b Equal e = rw (e) (Equal-is Equal)
+is_equal b Greater e = rw (e) (Equal-is Greater)
 
 pub loose_order_is_total : LooseOrderIsTotal
 loose_order_is_total = record { total = by_loose; same = λ a b. order_same (loose a) (loose b) }

@@ -3,8 +3,8 @@ use Rattle.std.specs.Prelude.{◌≡◌, ℕ, Bool, false, cond, ◌&&◌, ◌||
 use Rattle.std.specs.declared.cmp.Ordering.TheVariants.{Equal}
 use Rattle.std.specs.declared.cmp.Ordering.{Ordering}
 use Rattle.std.proofs.Math.Utf8.{encodes}
-use Rattle.std.specs.Cmp.{IsTotalOrder, nat_cmp_total}
-use Rattle.std.specs.Cmp.Lexicographic.{lexical}
+use Rattle.std.specs.Cmp.{IsTotalOrder}
+use Rattle.std.specs.Cmp.Lexicographic.{on_texts}
 use Rattle.text.specs.Points.{Wtf8}
 use Rattle.text.specs.Reading.{loose, marked, plain, order}
 
@@ -35,22 +35,16 @@ pub record LooseByCodePoints : Type 0 where
   -- the loose reading of well-formed WTF-8 is UTF-8
   pub text : (bs : List ℕ) → Wtf8 bs → IsUtf8 (loose bs)
 
--- r is the order of two texts by their loose readings
-abbrev pub ByLoose : List ℕ → List ℕ → Ordering → Type 0
-ByLoose a b r = r ≡ order (loose a) (loose b)
+-- the order of two texts by their loose readings
+abbrev pub loose_cmp : List ℕ → List ℕ → Ordering
+loose_cmp a b = order (loose a) (loose b)
 
--- the order by loose readings, with std's laws of a total order
-abbrev pub by_loose : IsTotalOrder ByLoose
-by_loose = record {
-  cmp = λ a b. order (loose a) (loose b);
-  says = λ a b r e. e;
-  flip = λ a b. (lexical nat_cmp_total).flip (loose a) (loose b);
-  trans = λ a b c. (lexical nat_cmp_total).trans (loose a) (loose b) (loose c);
-  alike = λ a b c. (lexical nat_cmp_total).congr (loose a) (loose b) (loose c);
-}
+-- it has std's laws of a total order
+abbrev pub by_loose : IsTotalOrder loose_cmp
+by_loose = on_texts loose
 
 pub record LooseOrderIsTotal : Type 0 where
   -- the other way round it is reversed, it is transitive, and texts that are equal in it compare alike
-  pub total : IsTotalOrder ByLoose
+  pub total : IsTotalOrder loose_cmp
   -- equal in this order means equal loose readings
   pub same : (a b : List ℕ) → order (loose a) (loose b) ≡ Equal → loose a ≡ loose b

@@ -1,4 +1,6 @@
 //! Bytes of a text: numbers and stretches of them, UTF-8 and WTF-8, and the readings of text that may hold surrogates.
+#![tactic(auto)]
+
 mod number;
 mod place;
 mod points;

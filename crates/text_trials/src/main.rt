@@ -1,4 +1,6 @@
 //! Runs the functions of `text` over fixed bytes and prints a line for each case.
+#![tactic(auto)]
+
 mod cases;
 mod show;
 mod texts;

@@ -1,4 +1,6 @@
 //! Tree blocks: the check of a block's bytes, and the tree that a lawful block holds. docs/TREE.md defines the block.
+#![tactic(auto)]
+
 mod access;
 mod check;
 mod depth;

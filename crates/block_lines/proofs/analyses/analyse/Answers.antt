@@ -10,7 +10,7 @@ returns-in-Ok c =
     let block = c.args.block.now in
     let o = subst (TreeOf m block) (sym t.0) (c.check-checked.ensures.tree t.1) in
     record {
-      found = of_block m block c.in-Ok.tree.now c.args.cjs.now c.args.es.now c.analyse-tree.result c.analyse-tree.new.cjs c.analyse-tree.new.es o c.analyse-tree.ensures.found;
-      cjs = c.analyse-tree.ensures.cjs;
-      es = c.analyse-tree.ensures.es;
+      found = of_block m block c.in-Ok.tree.now c.args.cjs.now c.args.es.now c.analyse_tree.result c.analyse_tree.new.cjs c.analyse_tree.new.es o c.analyse_tree.ensures.found;
+      cjs = c.analyse_tree.ensures.cjs;
+      es = c.analyse_tree.ensures.es;
     }

@@ -17,8 +17,8 @@ returns-in-Ok c =
     let s = room_of c.args.cjs.now in
     let t = room_of c.args.es.now in
     let a = c.in-Ok.ensures.found in
-    let cjs = part_text_lem m s (cjs_of s block) c.in-Ok.found.cjs c.analyse.new.cjs c.part-of.result a.cjs_is c.part-of.ensures in
-    let es = part_text_lem m t (es_of t block) c.in-Ok.found.es c.analyse.new.es c.part-of-in-Ok.result a.es_is c.part-of-in-Ok.ensures in
+    let cjs = part_text_lem m s (cjs_of s block) c.in-Ok.found.cjs c.analyse.new.cjs c.part_of.result a.cjs_is c.part_of.ensures in
+    let es = part_text_lem m t (es_of t block) c.in-Ok.found.es c.analyse.new.es c.part_of-in-Ok.result a.es_is c.part_of-in-Ok.ensures in
     subst (FindingsText m s t block) (sym (λ i. line (digit (a.script_is i)) (cjs i) (es i))) (found a.lawful)
 
 pub returns-in-Err : goal.returns-in-Err

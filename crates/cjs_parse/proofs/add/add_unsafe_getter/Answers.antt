@@ -5,11 +5,11 @@ use Rattle.cjs_parse.specs.State.{state}
 use Rattle.cjs_parse.proofs.Steps.{one_fits, one_full, rest_fits, stored_length, stored_take, stuck_by}
 use Rattle.cjs_parse.proofs.add.add_unsafe_getter.Goals as goal
 
-pub returns-in-err-insert : goal.returns-in-err-insert
-returns-in-err-insert c =
+pub returns-in_err-insert : goal.returns-in_err-insert
+returns-in_err-insert c =
     let v = c.args.tables.now in
     let T = c.args.text.now in
-    let r = c.in-err-insert.ensures.after in
+    let r = c.in_err-insert.ensures.after in
     let f = r.full in
     stuck_by T v _ _ c.from-residual.result c.from-residual.ensures.0
     (record {
@@ -22,7 +22,7 @@ pub returns : goal.returns
 returns c =
     let v = c.args.tables.now in
     let T = c.args.text.now in
-    let s = c.in-ok-insert.ensures.after in
+    let s = c.in_ok-insert.ensures.after in
     let fit = s.room in
     let taken = stored_take _ _ _ _ _ _ _ s in
     record {

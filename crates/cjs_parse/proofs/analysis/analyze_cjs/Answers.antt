@@ -21,17 +21,17 @@ returns-in-Ok c =
     let v = c.args.tables.now in
     let u = c.clear.new.self in
     let w = c.walk.new.tables in
-    let x = c.take-result.new.tables in
+    let x = c.take_result.new.tables in
     let t = c.args.program.tree.now in
     let s = c.tree-tree.result.now in
     let e = c.in-Ok.ensures in
     let T = tree_text s in
     let room : room_of u ≡ room_of v = cleared_room (room_of v) u c.clear.ensures.cleared in
     let same : cjs_outcome (room_of v) (tree_text t) (tree_rows t) ≡ Ok (safe T (state w)) = (λ i. cjs_outcome (sym room i) (tree_text (sym c.tree-tree.ensures i)) (tree_rows (sym c.tree-tree.ensures i))) ∙ e.outcome in
-    let holds : Hold (room_of v) (safe T (state w)) x = subst (λ k. Hold k (safe T (state w)) x) (e.room ∙ room) (subst (λ l. Hold (room_of w) (safe l (state w)) x) c.text-section.ensures c.take-result.ensures.holds) in
+    let holds : Hold (room_of v) (safe T (state w)) x = subst (λ k. Hold k (safe T (state w)) x) (e.room ∙ room) (subst (λ l. Hold (room_of w) (safe l (state w)) x) c.text_section.ensures c.take_result.ensures.holds) in
     record {
       analysed = analysed_ok (tree_module t) (room_of v) (cjs_outcome (room_of v) (tree_text t) (tree_rows t)) (safe T (state w)) x same holds;
-      lenders = lenders_on v w x (lenders_on v u w c.clear.ensures.lenders e.lenders) c.take-result.ensures.lenders;
+      lenders = lenders_on v w x (lenders_on v u w c.clear.ensures.lenders e.lenders) c.take_result.ensures.lenders;
       walk = walk_reaches_what_is_not_skipped;
       lists = acts_decide_the_lists;
     }

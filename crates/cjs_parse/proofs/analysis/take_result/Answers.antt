@@ -9,9 +9,9 @@ returns c =
       holds =
           record {
             bindings = left_as_is _ _ _ s.bindings.rest;
-            exports = c.remove-all.ensures.after;
-            reexports = c.remove-all-2.ensures.after;
+            exports = c.remove_all.ensures.after;
+            reexports = c.remove_all-2.ensures.after;
             unsafes = left_as_is _ _ _ s.unsafes.rest;
           };
-      lenders = record { bindings = refl; exports = c.remove-all.ensures.lender; reexports = c.remove-all-2.ensures.lender; unsafes = refl };
+      lenders = record { bindings = refl; exports = c.remove_all.ensures.lender; reexports = c.remove_all-2.ensures.lender; unsafes = refl };
     }

@@ -24,7 +24,7 @@ pub loop-j-preserved : goal.loop-j-preserved
 loop-j-preserved c =
     let t = c.args.tree.now in
     let h : c.loop-j.j < length (tree_rows t) = omega arith in
-    subst (Going (tree_text t) (tree_rows t) c.args.tables.now c.visit.new.tables) (sym c.next-row-j.ensures) (going_on (tree_text t) (tree_rows t) c.args.tables.now (nested_of t) c.loop-j.tables c.visit.new.tables c.loop-j.j h c.loop-j.invariant c.in-Ok.ensures)
+    subst (Going (tree_text t) (tree_rows t) c.args.tables.now c.visit.new.tables) (sym c.next_row-j.ensures) (going_on (tree_text t) (tree_rows t) c.args.tables.now (nested_of t) c.loop-j.tables c.visit.new.tables c.loop-j.j h c.loop-j.invariant c.in-Ok.ensures)
 
 pub returns : goal.returns
 returns c =

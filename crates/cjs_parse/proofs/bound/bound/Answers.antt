@@ -6,8 +6,8 @@ use Rattle.cjs_rules.specs.Nodes.{read}
 use Rattle.cjs_parse.proofs.Look.{spot_at}
 use Rattle.cjs_parse.proofs.bound.bound.Goals as goal
 
-pub value-at-requires : goal.value-at-requires
-value-at-requires c =
+pub value_at-requires : goal.value_at-requires
+value_at-requires c =
     let T = c.args.text.now in
     let n = c.args.tables.now.bindings.len in
     let rows = c.args.tables.now.bindings.rows.now in
@@ -25,7 +25,7 @@ returns-in-Ok c =
     let l = s.0 in
     let e = length-take-le n rows c.requires.bindings.rest.fits in
     let q = get_or-take n rows c.in-Ok.i bindings.zero (omega arith) in
-    sym (s.1 bindings.zero ∙ ap (λ (b : Binding). Some b.value) q ∙ ap Some (sym c.value-at.ensures))
+    sym (s.1 bindings.zero ∙ ap (λ (b : Binding). Some b.value) q ∙ ap Some (sym c.value_at.ensures))
 
 pub returns-in-Err : goal.returns-in-Err
 returns-in-Err c =

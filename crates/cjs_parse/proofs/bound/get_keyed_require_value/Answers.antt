@@ -8,5 +8,5 @@ pub returns : goal.returns
 returns c =
     let rs = tree_rows c.args.tree.now in
     let bracket : eqb (row_at rs c.args.p).kind computed ≡ true = eq-eqb _ _ (rw c.row.ensures at c.if-row-ne-COMPUTED.false) in
-    let name : eqb (row_at rs c.in-ok-k.k).kind ident ≡ true = eq-eqb _ _ (rw c.row-2.ensures at c.if-row-ne-IDENT.false) in
-    rw (bracket, c.in-ok-k.ensures.is, name, ← c.text.ensures) c.get_member_require_value.ensures
+    let name : eqb (row_at rs c.in_ok-k.k).kind ident ≡ true = eq-eqb _ _ (rw c.row-2.ensures at c.if-row-ne-IDENT.false) in
+    rw (bracket, c.in_ok-k.ensures.is, name, ← c.text.ensures) c.get_member_require_value.ensures

@@ -32,4 +32,4 @@ returns t c =
     let other : eqb (row_at rs c.args.j).kind assign ≡ false = ne_eqb _ _ (rw c.row-kind.ensures at c.if-kind-eq-ASSIGN.false) in
     let no_object : eqb (row_at rs c.args.j).kind object ≡ false = ne_eqb _ _ (rw c.row-kind.ensures at c.if-kind-eq-OBJECT.false) in
     let e = call_of T (row_at rs c.args.j) (children rs c.args.j) c.visit_exports_call.result other no_object c.visit_exports_call.ensures in
-    subst (λ es. Moves T v es c.perform.result c.perform.new.tables) (sym e) (subst (λ s. Moves s v (once c.visit_exports_call.result) c.perform.result c.perform.new.tables) c.text-section.ensures c.perform.ensures)
+    subst (λ es. Moves T v es c.perform.result c.perform.new.tables) (sym e) (subst (λ s. Moves s v (once c.visit_exports_call.result) c.perform.result c.perform.new.tables) c.text_section.ensures c.perform.ensures)

@@ -5,5 +5,5 @@ use Rattle.cjs_rules.proofs.harmless.+harmless_harmless_prop.Given as goal
 abbrev pub decreases-harmless : goal.decreases-harmless
 decreases-harmless l = length (tree_rows l.tree.now) - l.j
 
-abbrev pub decreases-harmless-prop : goal.decreases-harmless-prop
-decreases-harmless-prop l = length (tree_rows l.tree.now) - l.p
+abbrev pub decreases-harmless_prop : goal.decreases-harmless_prop
+decreases-harmless_prop l = length (tree_rows l.tree.now) - l.p

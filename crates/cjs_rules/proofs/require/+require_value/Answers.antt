@@ -5,11 +5,11 @@ use Rattle.cjs_rules.specs.Nodes.{at}
 use Rattle.cjs_rules.specs.Words.{is_ident}
 use Rattle.cjs_rules.proofs.require.+require_value.Goals as goal
 
-pub returns-then-is-ident-2 : goal.returns-then-is-ident-2
-returns-then-is-ident-2 t c =
+pub returns-then-is_ident-2 : goal.returns-then-is_ident-2
+returns-then-is_ident-2 t c =
     let tree = c.args.tree.now in
-    let callee = c.in-ok-callee.callee in
+    let callee = c.in_ok-callee.callee in
     let is_call : eqb (row_at (tree_rows tree) c.args.j).kind 6 ≡ true = eq-eqb _ _ (rw c.row.ensures at c.if-row-ne-CALL.false) in
-    let no-require : is_ident (tree_text tree) (codes "require") (at tree callee) ≡ false = sym c.if-is-ident.ensures in
-    let wildcard : is_ident (tree_text tree) (codes "_interopRequireWildcard") (at tree callee) ≡ true = sym c.if-is-ident-2.ensures in
-    rw (c.in-ok-callee.ensures.is, c.in-ok-arg.ensures.is, is_call, no-require, wildcard) c.require_value.ensures
+    let no-require : is_ident (tree_text tree) (codes "require") (at tree callee) ≡ false = sym c.if-is_ident.ensures in
+    let wildcard : is_ident (tree_text tree) (codes "_interopRequireWildcard") (at tree callee) ≡ true = sym c.if-is_ident-2.ensures in
+    rw (c.in_ok-callee.ensures.is, c.in_ok-arg.ensures.is, is_call, no-require, wildcard) c.require_value.ensures

@@ -7,16 +7,16 @@ use Rattle.exports.proofs.Standard.{items_of_the_standard}
 use Rattle.exports.proofs.WithinRoom.{listed_whole_or_refused}
 use Rattle.exports.proofs.exports.analyze_es_runtime_exports.Goals as goal
 
-pub list-items-requires : goal.list-items-requires
-list-items-requires c = subst (λ x. Hold x nothing c.clear.new.self) (sym (room_of_nothing c.args.tables.now c.clear.new.self c.clear.ensures.cleared)) c.clear.ensures.cleared
+pub list_items-requires : goal.list_items-requires
+list_items-requires c = subst (λ x. Hold x nothing c.clear.new.self) (sym (room_of_nothing c.args.tables.now c.clear.new.self c.clear.ensures.cleared)) c.clear.ensures.cleared
 
 pub returns-in-Module : goal.returns-in-Module
 returns-in-Module c =
     let tree = c.args.program.tree.now in
     let mark : eqb (row_at (tree_rows tree) 0).mark 1 ≡ false = search rules in
     record {
-      analysed = module_analysed c.args.tables.now c.clear.new.self c.list-items.new.tables (tree_module tree) (tree_rows tree) c.list-items.result c.clear.ensures.cleared mark (rw c.tree.ensures at c.list-items.ensures.analysed);
-      lenders = lenders_kept _ _ _ c.clear.ensures.lenders c.list-items.ensures.lenders;
+      analysed = module_analysed c.args.tables.now c.clear.new.self c.list_items.new.tables (tree_module tree) (tree_rows tree) c.list_items.result c.clear.ensures.cleared mark (rw c.tree.ensures at c.list_items.ensures.analysed);
+      lenders = lenders_kept _ _ _ c.clear.ensures.lenders c.list_items.ensures.lenders;
       whole = listed_whole_or_refused;
       standard = items_of_the_standard;
     }

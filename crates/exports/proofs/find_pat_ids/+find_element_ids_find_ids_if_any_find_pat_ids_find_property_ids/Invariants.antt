@@ -6,30 +6,30 @@ use Rattle.exports.specs.BoundNames.{of_elements, of_properties}
 use Rattle.exports.proofs.Onward.{Onward, ahead}
 use Rattle.exports.proofs.find_pat_ids.+find_element_ids_find_ids_if_any_find_pat_ids_find_property_ids.Given as goal
 
-abbrev pub decreases-find-pat-ids : goal.decreases-find-pat-ids
-decreases-find-pat-ids l = 3 * (length (tree_rows l.tree.now) - l.p) + 2
+abbrev pub decreases-find_pat_ids : goal.decreases-find_pat_ids
+decreases-find_pat_ids l = 3 * (length (tree_rows l.tree.now) - l.p) + 2
 
-abbrev pub decreases-find-ids-if-any : goal.decreases-find-ids-if-any
-decreases-find-ids-if-any l = ahead (length (tree_rows l.tree.now)) l.pattern
+abbrev pub decreases-find_ids_if_any : goal.decreases-find_ids_if_any
+decreases-find_ids_if_any l = ahead (length (tree_rows l.tree.now)) l.pattern
 
-abbrev pub decreases-find-element-ids : goal.decreases-find-element-ids
-decreases-find-element-ids l = 3 * (length (tree_rows l.tree.now) - l.j) + 1
+abbrev pub decreases-find_element_ids : goal.decreases-find_element_ids
+decreases-find_element_ids l = 3 * (length (tree_rows l.tree.now) - l.j) + 1
 
-abbrev pub decreases-find-property-ids : goal.decreases-find-property-ids
-decreases-find-property-ids l = 3 * (length (tree_rows l.tree.now) - l.j) + 1
+abbrev pub decreases-find_property_ids : goal.decreases-find_property_ids
+decreases-find_property_ids l = 3 * (length (tree_rows l.tree.now) - l.j) + 1
 
-abbrev pub invariant-find-element-ids-loop-next : goal.invariant-find-element-ids-loop-next
-invariant-find-element-ids-loop-next l =
+abbrev pub invariant-find_element_ids-loop-next : goal.invariant-find_element_ids-loop-next
+invariant-find_element_ids-loop-next l =
     Under (tree_rows l.tree) l.j l.next
     × Onward (of_elements (children (tree_rows l.tree) l.j)) (of_elements (since (tree_rows l.tree) l.j l.next)) l.initial.names l.names
 
-abbrev pub decreases-find-element-ids-loop-next : goal.decreases-find-element-ids-loop-next
-decreases-find-element-ids-loop-next l = left (tree_rows l.tree) l.next
+abbrev pub decreases-find_element_ids-loop-next : goal.decreases-find_element_ids-loop-next
+decreases-find_element_ids-loop-next l = left (tree_rows l.tree) l.next
 
-abbrev pub invariant-find-property-ids-loop-next : goal.invariant-find-property-ids-loop-next
-invariant-find-property-ids-loop-next l =
+abbrev pub invariant-find_property_ids-loop-next : goal.invariant-find_property_ids-loop-next
+invariant-find_property_ids-loop-next l =
     Under (tree_rows l.tree) l.j l.next
     × Onward (of_properties (children (tree_rows l.tree) l.j)) (of_properties (since (tree_rows l.tree) l.j l.next)) l.initial.names l.names
 
-abbrev pub decreases-find-property-ids-loop-next : goal.decreases-find-property-ids-loop-next
-decreases-find-property-ids-loop-next l = left (tree_rows l.tree) l.next
+abbrev pub decreases-find_property_ids-loop-next : goal.decreases-find_property_ids-loop-next
+decreases-find_property_ids-loop-next l = left (tree_rows l.tree) l.next

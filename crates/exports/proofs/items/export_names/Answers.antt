@@ -4,7 +4,7 @@ use Rattle.exports.specs.Beyond.{item_names}
 use Rattle.exports.proofs.Appending.{nothing_appended}
 use Rattle.exports.proofs.items.export_names.Goals as goal
 
-pub returns-in-default : goal.returns-in-default
-returns-in-default c =
+pub returns-in_default : goal.returns-in_default
+returns-in_default c =
     let none : item_names (at c.args.tree.now c.args.item) ≡ [] = search rules in
     rw none (nothing_appended c.args.names.now c.requires)

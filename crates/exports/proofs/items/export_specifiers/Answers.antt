@@ -7,17 +7,17 @@ use Rattle.exports.specs.ExportedNames.{each}
 use Rattle.exports.proofs.Onward.{done, stop, turn}
 use Rattle.exports.proofs.items.export_specifiers.Goals as goal
 
-pub returns-in-err-append-if-any : goal.returns-in-err-append-if-any
-returns-in-err-append-if-any c =
+pub returns-in_err-append_if_any : goal.returns-in_err-append_if_any
+returns-in_err-append_if_any c =
     let tree = c.args.tree.now in
-    stop (each specifier_names) (each specifier_names (children (tree_rows tree) c.args.j)) (specifier_names (at tree c.in-Some.s)) (tree_rows tree) c.args.j c.in-Some.s c.loop-next.next c.args.names.now c.loop-next.names c.append-if-any.new.table
-    c.in-Some.is refl c.loop-next.invariant _ c.from-residual.result (rw c.specifier-name.ensures at c.in-err-append-if-any.ensures) c.from-residual.ensures.0
+    stop (each specifier_names) (each specifier_names (children (tree_rows tree) c.args.j)) (specifier_names (at tree c.in-Some.s)) (tree_rows tree) c.args.j c.in-Some.s c.loop-next.next c.args.names.now c.loop-next.names c.append_if_any.new.table
+    c.in-Some.is refl c.loop-next.invariant _ c.from-residual.result (rw c.specifier_name.ensures at c.in_err-append_if_any.ensures) c.from-residual.ensures.0
 
 pub loop-next-preserved : goal.loop-next-preserved
 loop-next-preserved c =
     let tree = c.args.tree.now in
-    turn (each specifier_names) (each specifier_names (children (tree_rows tree) c.args.j)) (specifier_names (at tree c.in-Some.s)) (tree_rows tree) c.args.j c.in-Some.s c.loop-next.next c.args.names.now c.loop-next.names c.append-if-any.new.table
-    c.in-Some.is refl c.loop-next.invariant c.next-sibling-next.result c.next-sibling-next.ensures.is (rw c.specifier-name.ensures at c.in-ok-append-if-any.ensures)
+    turn (each specifier_names) (each specifier_names (children (tree_rows tree) c.args.j)) (specifier_names (at tree c.in-Some.s)) (tree_rows tree) c.args.j c.in-Some.s c.loop-next.next c.args.names.now c.loop-next.names c.append_if_any.new.table
+    c.in-Some.is refl c.loop-next.invariant c.next_sibling-next.result c.next_sibling-next.ensures.is (rw c.specifier_name.ensures at c.in_ok-append_if_any.ensures)
 
 pub returns : goal.returns
-returns c = done _ _ _ _ (rw c.in-default.is refl) c.loop-next.invariant
+returns c = done _ _ _ _ (rw c.in_default.is refl) c.loop-next.invariant

@@ -7,7 +7,7 @@ loop-row-init g c = nothing_yet g.W.Write.write_str_gives _ _
 
 pub loop-row-preserved : goal.loop-row-preserved
 loop-row-preserved g c =
-    row_written _ _ g.W.Write.write_str_gives _ _ c.loop-row.row-index c.row-item.result c.loop-row-test.true c.row-item.is _ _ _ c.loop-row.invariant c.in-ok-write-str.ensures.writes c.in-ok-write-row.ensures
+    row_written _ _ g.W.Write.write_str_gives _ _ c.loop-row.row-index c.row-item.result c.loop-row-test.true c.row-item.is _ _ _ c.loop-row.invariant c.in_ok-write_str.ensures.writes c.in_ok-write_row.ensures
 
 pub returns : goal.returns
 returns g c =

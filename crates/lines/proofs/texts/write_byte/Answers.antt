@@ -6,5 +6,5 @@ use Rattle.lines.proofs.texts.write_byte.Goals as goal
 pub returns : goal.returns
 returns g c plain ok =
     has_written_of_eq g.W.Write.write_str_gives _ _ _ _
-    (two_digits _ _ _ _ (omega arith) (omega arith) c.hex-digit-high.ensures c.hex-digit-low.ensures)
+    (two_digits _ _ _ _ (omega arith) (omega arith) c.hex_digit-high.ensures c.hex_digit-low.ensures)
     (c.write.ensures.writes plain ok)

@@ -11,8 +11,8 @@ pub loop-byte-preserved : goal.loop-byte-preserved
 loop-byte-preserved g c =
     one_more g.W.Write.write_str_gives _ _ _ (hex_bytes (c.in-Some.byte ∷ [])) _ _
     (subst (Going g.W.Write.write_str_gives _ _ _) (ap hex_bytes c.in-Some.ensures) c.loop-byte.invariant)
-    c.in-ok-write-byte.ensures
+    c.in_ok-write_byte.ensures
 
 pub returns : goal.returns
 returns g c =
-    all_of_it g.W.Write.write_str_gives _ _ _ (subst (Going g.W.Write.write_str_gives _ _ _) (ap hex_bytes c.in-default.ensures.0) c.loop-byte.invariant)
+    all_of_it g.W.Write.write_str_gives _ _ _ (subst (Going g.W.Write.write_str_gives _ _ _) (ap hex_bytes c.in_default.ensures.0) c.loop-byte.invariant)

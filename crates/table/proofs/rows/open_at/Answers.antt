@@ -4,4 +4,4 @@ use Rattle.std.proofs.lemmas.Bool.{cases_eq}
 use Rattle.table.proofs.rows.open_at.Goals as goal
 
 pub returns : goal.returns
-returns g c = let h = c.rotate-right.ensures in same_lists _ _ (search (rules, places)) (λ k d h. grind (arith, places, get_or-set_same, cases_eq k c.args.i))
+returns g c = let h = c.rotate_right.ensures in same_lists _ _ (search (rules, places)) (λ k d h. grind (arith, places, get_or-set_same, cases_eq k c.args.i))

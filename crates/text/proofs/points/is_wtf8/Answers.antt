@@ -16,7 +16,7 @@ loop-point-smaller c = shorter _ _ _ c.in-Point.ensures.1
 pub loop-point-preserved : goal.loop-point-preserved
 loop-point-preserved c =
     let e = c.in-Point.ensures in
-    let h = c.is-high-after-high.ensures in (
+    let h = c.is_high-after_high.ensures in (
       (λ w. subst (λ b. Wtf8After b c.in-Point.more.now) (sym h) (wtf8_rest _ _ _ _ e.1 (c.loop-point.invariant.0 w)).1),
       λ w. c.loop-point.invariant.1 (wtf8_more _ _ _ _ e.0 e.1 (sym c.if-completes.ensures) (subst (λ b. Wtf8After b c.in-Point.more.now) h w)),
     )

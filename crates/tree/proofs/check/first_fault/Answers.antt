@@ -35,52 +35,52 @@ some_rows block l rs e =
     let n = ap length e ∙ length_rows _ (rows_length block / 20) in
     omega (arith, l.some_row, l.whole_rows)
 
-pub returns-then-not-is-lawful-layout : goal.returns-then-not-is-lawful-layout
-returns-then-not-is-lawful-layout c =
+pub returns-then-not-is_lawful_layout : goal.returns-then-not-is_lawful_layout
+returns-then-not-is_lawful_layout c =
     let o : Option TreeFault = (Some (Layout c.args.module)) in
-    let v : Verdict c.args.module c.args.block.now (described o) = bad_layout (λ l. both_ways _ c.if-not-is-lawful-layout.true (c.is-lawful-layout.ensures.1 l)) in
+    let v : Verdict c.args.module c.args.block.now (described o) = bad_layout (λ l. both_ways _ c.if-not-is_lawful_layout.true (c.is_lawful_layout.ensures.1 l)) in
     record { verdict = v; accepts = accepts c.args.module c.args.block.now o v; lawful = lawful_from c.args.module c.args.block.now o v; one = one_verdict; shapes = children_fit_by_place }
 
-pub first-unlawful-end-requires : goal.first-unlawful-end-requires
-first-unlawful-end-requires c = some_rows _ (c.is-lawful-layout.ensures.0 c.if-not-is-lawful-layout.false) _ c.sections-of-sections.ensures.rows
+pub first_unlawful_end-requires : goal.first_unlawful_end-requires
+first_unlawful_end-requires c = some_rows _ (c.is_lawful_layout.ensures.0 c.if-not-is_lawful_layout.false) _ c.sections_of-sections.ensures.rows
 
 pub returns-in-Some : goal.returns-in-Some
 returns-in-Some c =
-    let s = c.sections-of-sections.ensures in
+    let s = c.sections_of-sections.ensures in
     let o : Option TreeFault = (Some (End c.args.module c.in-Some.row)) in
-    let v : Verdict c.args.module c.args.block.now (described o) = bad_end _ (c.is-lawful-layout.ensures.0 c.if-not-is-lawful-layout.false) (ends c.args.block.now _ _ s.rows s.text (Some _) c.in-Some.ensures) in
+    let v : Verdict c.args.module c.args.block.now (described o) = bad_end _ (c.is_lawful_layout.ensures.0 c.if-not-is_lawful_layout.false) (ends c.args.block.now _ _ s.rows s.text (Some _) c.in-Some.ensures) in
     record { verdict = v; accepts = accepts c.args.module c.args.block.now o v; lawful = lawful_from c.args.module c.args.block.now o v; one = one_verdict; shapes = children_fit_by_place }
 
-pub first-deep-requires : goal.first-deep-requires
-first-deep-requires c = nested _ c.in-default.ensures
+pub first_deep-requires : goal.first_deep-requires
+first_deep-requires c = nested _ c.in_default.ensures
 
-pub returns-in-Some-first-deep : goal.returns-in-Some-first-deep
-returns-in-Some-first-deep c =
-    let s = c.sections-of-sections.ensures in
-    let o : Option TreeFault = (Some (Depth c.args.module c.in-Some-first-deep.row)) in
-    let v : Verdict c.args.module c.args.block.now (described o) = bad_depth _ (c.is-lawful-layout.ensures.0 c.if-not-is-lawful-layout.false) (ends c.args.block.now _ _ s.rows s.text None c.in-default.ensures) (depths c.args.block.now _ _ s.rows s.text (Some _) c.in-Some-first-deep.ensures) in
+pub returns-in-Some-first_deep : goal.returns-in-Some-first_deep
+returns-in-Some-first_deep c =
+    let s = c.sections_of-sections.ensures in
+    let o : Option TreeFault = (Some (Depth c.args.module c.in-Some-first_deep.row)) in
+    let v : Verdict c.args.module c.args.block.now (described o) = bad_depth _ (c.is_lawful_layout.ensures.0 c.if-not-is_lawful_layout.false) (ends c.args.block.now _ _ s.rows s.text None c.in_default.ensures) (depths c.args.block.now _ _ s.rows s.text (Some _) c.in-Some-first_deep.ensures) in
     record { verdict = v; accepts = accepts c.args.module c.args.block.now o v; lawful = lawful_from c.args.module c.args.block.now o v; one = one_verdict; shapes = children_fit_by_place }
 
-pub first-unshaped-requires : goal.first-unshaped-requires
-first-unshaped-requires c = nested _ c.in-default.ensures
+pub first_unshaped-requires : goal.first_unshaped-requires
+first_unshaped-requires c = nested _ c.in_default.ensures
 
-pub returns-in-Some-first-unshaped : goal.returns-in-Some-first-unshaped
-returns-in-Some-first-unshaped c =
-    let s = c.sections-of-sections.ensures in
-    let o : Option TreeFault = (Some (Shape c.args.module c.in-Some-first-unshaped.row)) in
-    let v : Verdict c.args.module c.args.block.now (described o) = bad_shape _ (c.is-lawful-layout.ensures.0 c.if-not-is-lawful-layout.false) (ends c.args.block.now _ _ s.rows s.text None c.in-default.ensures) (depths c.args.block.now _ _ s.rows s.text None c.in-default-first-deep.ensures) (shapes c.args.block.now _ _ s.rows s.text (Some _) c.in-Some-first-unshaped.ensures) in
+pub returns-in-Some-first_unshaped : goal.returns-in-Some-first_unshaped
+returns-in-Some-first_unshaped c =
+    let s = c.sections_of-sections.ensures in
+    let o : Option TreeFault = (Some (Shape c.args.module c.in-Some-first_unshaped.row)) in
+    let v : Verdict c.args.module c.args.block.now (described o) = bad_shape _ (c.is_lawful_layout.ensures.0 c.if-not-is_lawful_layout.false) (ends c.args.block.now _ _ s.rows s.text None c.in_default.ensures) (depths c.args.block.now _ _ s.rows s.text None c.in_default-first_deep.ensures) (shapes c.args.block.now _ _ s.rows s.text (Some _) c.in-Some-first_unshaped.ensures) in
     record { verdict = v; accepts = accepts c.args.module c.args.block.now o v; lawful = lawful_from c.args.module c.args.block.now o v; one = one_verdict; shapes = children_fit_by_place }
 
-pub returns-in-Some-first-unlawful-text : goal.returns-in-Some-first-unlawful-text
-returns-in-Some-first-unlawful-text c =
-    let s = c.sections-of-sections.ensures in
-    let o : Option TreeFault = (Some (Text c.args.module c.in-Some-first-unlawful-text.row)) in
-    let v : Verdict c.args.module c.args.block.now (described o) = bad_text _ (c.is-lawful-layout.ensures.0 c.if-not-is-lawful-layout.false) (ends c.args.block.now _ _ s.rows s.text None c.in-default.ensures) (depths c.args.block.now _ _ s.rows s.text None c.in-default-first-deep.ensures) (shapes c.args.block.now _ _ s.rows s.text None c.in-default-first-unshaped.ensures) (texts c.args.block.now _ _ s.rows s.text (Some _) c.in-Some-first-unlawful-text.ensures) in
+pub returns-in-Some-first_unlawful_text : goal.returns-in-Some-first_unlawful_text
+returns-in-Some-first_unlawful_text c =
+    let s = c.sections_of-sections.ensures in
+    let o : Option TreeFault = (Some (Text c.args.module c.in-Some-first_unlawful_text.row)) in
+    let v : Verdict c.args.module c.args.block.now (described o) = bad_text _ (c.is_lawful_layout.ensures.0 c.if-not-is_lawful_layout.false) (ends c.args.block.now _ _ s.rows s.text None c.in_default.ensures) (depths c.args.block.now _ _ s.rows s.text None c.in_default-first_deep.ensures) (shapes c.args.block.now _ _ s.rows s.text None c.in_default-first_unshaped.ensures) (texts c.args.block.now _ _ s.rows s.text (Some _) c.in-Some-first_unlawful_text.ensures) in
     record { verdict = v; accepts = accepts c.args.module c.args.block.now o v; lawful = lawful_from c.args.module c.args.block.now o v; one = one_verdict; shapes = children_fit_by_place }
 
 pub returns : goal.returns
 returns c =
-    let s = c.sections-of-sections.ensures in
+    let s = c.sections_of-sections.ensures in
     let o : Option TreeFault = None in
-    let v : Verdict c.args.module c.args.block.now (described o) = accepted (record { layout = (c.is-lawful-layout.ensures.0 c.if-not-is-lawful-layout.false); ends = (ends c.args.block.now _ _ s.rows s.text None c.in-default.ensures); depths = (depths c.args.block.now _ _ s.rows s.text None c.in-default-first-deep.ensures); shapes = (shapes c.args.block.now _ _ s.rows s.text None c.in-default-first-unshaped.ensures); texts = (texts c.args.block.now _ _ s.rows s.text None c.in-default-first-unlawful-text.ensures) }) in
+    let v : Verdict c.args.module c.args.block.now (described o) = accepted (record { layout = (c.is_lawful_layout.ensures.0 c.if-not-is_lawful_layout.false); ends = (ends c.args.block.now _ _ s.rows s.text None c.in_default.ensures); depths = (depths c.args.block.now _ _ s.rows s.text None c.in_default-first_deep.ensures); shapes = (shapes c.args.block.now _ _ s.rows s.text None c.in_default-first_unshaped.ensures); texts = (texts c.args.block.now _ _ s.rows s.text None c.in_default-first_unlawful_text.ensures) }) in
     record { verdict = v; accepts = accepts c.args.module c.args.block.now o v; lawful = lawful_from c.args.module c.args.block.now o v; one = one_verdict; shapes = children_fit_by_place }

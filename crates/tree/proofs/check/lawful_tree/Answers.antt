@@ -4,5 +4,5 @@ use Rattle.tree.proofs.check.lawful_tree.Goals as goal
 
 pub invariant-of-result : goal.invariant-of-result
 invariant-of-result c =
-    let s = c.sections-of-sections in
+    let s = c.sections_of-sections in
     facts_of c.args.block.now c.requires (rows_of s.result.rows) s.result.text.now s.ensures.rows s.ensures.text

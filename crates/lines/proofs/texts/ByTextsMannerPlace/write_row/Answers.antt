@@ -6,6 +6,6 @@ use Rattle.lines.proofs.texts.ByTextsMannerPlace.write_row.Goals as goal
 pub returns : goal.returns
 returns g c =
     last_after g.W.Write.write_str_gives _ _ _ _ _ _ _
-    (ap (λ bs. codes "." ++ hex_bytes bs) c.bytes-at.ensures)
-    c.in-ok-write-str.ensures.writes
-    c.write-loose.ensures
+    (ap (λ bs. codes "." ++ hex_bytes bs) c.bytes_at.ensures)
+    c.in_ok-write_str.ensures.writes
+    c.write_loose.ensures

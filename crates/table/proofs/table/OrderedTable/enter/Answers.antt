@@ -8,4 +8,4 @@ returns-then-n-self g c =
 
 pub returns : goal.returns
 returns g c =
-    record { after = grows g.R.Row.kind.zero c.args.self.now.len c.args.self.now.rows.now c.requires.1 c.args.row c.args.i c.requires.0 c.open-at.new.rows (omega arith) c.open-at.ensures; lender = refl }
+    record { after = grows g.R.Row.kind.zero c.args.self.now.len c.args.self.now.rows.now c.requires.1 c.args.row c.args.i c.requires.0 c.open_at.new.rows (omega arith) c.open_at.ensures; lender = refl }

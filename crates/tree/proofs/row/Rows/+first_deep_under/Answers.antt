@@ -15,17 +15,17 @@ loop-c-init t c =
     let s = c.args.self.now in
     (omega arith, rw c.end-end.ensures (span_children (rows_of s) c.requires c.args.j (omega arith)), rw c.end-end.ensures)
 
-pub returns-then-is-too-deep : goal.returns-then-is-too-deep
-returns-then-is-too-deep t c =
+pub returns-then-is_too_deep : goal.returns-then-is_too_deep
+returns-then-is_too_deep t c =
     let s = c.args.self.now in
     let u = ap (deep c.args.depth) (forest_some (rows_of s) c.requires c.loop-c.c c.end-end.result c.loop-c-test.true c.loop-c.invariant.1) in
-    sym (c.loop-c.invariant.2 ∙ u ∙ cond-true _ _ _ (sym c.if-is-too-deep.ensures))
+    sym (c.loop-c.invariant.2 ∙ u ∙ cond-true _ _ _ (sym c.if-is_too_deep.ensures))
 
 pub returns-in-Some : goal.returns-in-Some
 returns-in-Some t c =
     let s = c.args.self.now in
     let u = ap (deep c.args.depth) (forest_some (rows_of s) c.requires c.loop-c.c c.end-end.result c.loop-c-test.true c.loop-c.invariant.1) in
-    let v = cond-false _ _ _ (sym c.if-is-too-deep.ensures) in
+    let v = cond-false _ _ _ (sym c.if-is_too_deep.ensures) in
     sym (c.loop-c.invariant.2 ∙ u ∙ v ∙ rw (← c.in-Some.ensures))
 
 pub loop-c-preserved : goal.loop-c-preserved
@@ -35,7 +35,7 @@ loop-c-preserved t c =
     let up = c.requires.above c.loop-c.c (omega (arith, c.loop-c.invariant.1.in_rows)) in (
       omega arith,
       rw c.end-c.ensures (span_rest (rows_of s) c.requires c.loop-c.c c.end-end.result c.loop-c-test.true c.loop-c.invariant.1),
-      c.loop-c.invariant.2 ∙ u ∙ cond-false _ _ _ (sym c.if-is-too-deep.ensures) ∙ rw (← c.in-default.ensures, c.end-c.ensures),
+      c.loop-c.invariant.2 ∙ u ∙ cond-false _ _ _ (sym c.if-is_too_deep.ensures) ∙ rw (← c.in_default.ensures, c.end-c.ensures),
     )
 
 pub returns : goal.returns

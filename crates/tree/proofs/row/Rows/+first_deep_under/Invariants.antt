@@ -5,8 +5,8 @@ use Rattle.tree.specs.Forest.{children, forest}
 use Rattle.tree.proofs.Grown.{Span}
 use Rattle.tree.proofs.row.Rows.+first_deep_under.Given as goal
 
-abbrev pub decreases-first-deep-under : goal.decreases-first-deep-under
-decreases-first-deep-under l = length (rows_of l.self.now) - l.j
+abbrev pub decreases-first_deep_under : goal.decreases-first_deep_under
+decreases-first_deep_under l = length (rows_of l.self.now) - l.j
 
 abbrev pub invariant-loop-c : goal.invariant-loop-c
 invariant-loop-c l =

@@ -8,4 +8,4 @@ use Rattle.tree.proofs.row.Rows.first_deep.Goals as goal
 pub returns : goal.returns
 returns c =
     let rs = rows_of c.args.self.now in
-    subst (First (Shallow rs) (length rs)) (sym c.first-deep-under.ensures) (too_deep rs c.requires)
+    subst (First (Shallow rs) (length rs)) (sym c.first_deep_under.ensures) (too_deep rs c.requires)

@@ -28,8 +28,8 @@ returns-then-end-j c =
 pub loop-j-preserved : goal.loop-j-preserved
 loop-j-preserved c =
     let rs = rows_of c.args.self.now in
-    let r = c.first-unlawful-child-limit.result in
-    let o = c.first-unlawful-child-limit.ensures in (
+    let r = c.first_unlawful_child-limit.result in
+    let o = c.first_unlawful_child-limit.ensures in (
       omega arith,
       omega arith,
       (λ l s.
