@@ -1,5 +1,5 @@
 -- Appending in steps: after a step that was accepted the rest follows, and after one that was refused the rest is cut off.
-use Rattle.std.proofs.Common.{◌≡◌, ℕ, suc, ◌+◌, ◌-◌, ◌<◌, ◌≤◌, Bool, true, false, leb, List, [], ◌∷◌, ◌++◌, length, take, drop, set, replicate, is_ok, is_err, Ok, Err, Result, sym, refl, ap, ◌∙◌, subst, append_assoc, append_nil, add-one, arith, le-leb}
+use Rattle.std.proofs.Common.{◌≡◌, ℕ, suc, ◌+◌, ◌-◌, ◌<◌, ◌≤◌, Bool, true, false, leb, List, [], ◌∷◌, ◌++◌, length, take, drop, set, replicate, is_ok, is_err, Ok, Err, Result, sym, refl, ap, ◌∙◌, subst, append_assoc, append-nil, add-one, arith, le-leb}
 use borrow.Author.Tests.{lt-leb, true-leb, false-leb, lt-false, le-true}
 use Rattle.std.proofs.lemmas.List.{drop_at, drop-drop, drop-replicate, length-append, length_push, length-replicate, length-take, length-take-le, set_split, take_all, take-append-drop, take-append-le, take_at}
 use Rattle.table.specs.Kinds.{no_place}
@@ -67,9 +67,9 @@ module _ (ys : List Place) (s t : OrderedTable Place) (x : Extended ys s t) wher
 pub nothing_appended : (s : OrderedTable Place) → Ready s → Appended [] s (Ok tt) s
 nothing_appended s h =
     let l : length (held s) ≡ s.len = counted s.len s.rows.now h in
-    let e : take (capacity s) (held s ++ []) ≡ held s = rw append_nil (take_all (capacity s) (held s) (omega (arith, h.fits))) in
+    let e : take (capacity s) (held s ++ []) ≡ held s = rw append-nil (take_all (capacity s) (held s) (omega (arith, h.fits))) in
     record {
-      answer = rw append_nil (le-true _ _ (omega (arith, h.fits)));
+      answer = rw append-nil (le-true _ _ (omega (arith, h.fits)));
       table = record { rows = rw e (as_they_are s.len s.rows.now h); lender = refl };
     }
 

@@ -1,5 +1,5 @@
 -- The outcome in words: all is listed where it fits, and else the first item up to which it does not fit is refused.
-use Rattle.std.proofs.Common.{◌≡◌, ℕ, ◌+◌, ◌<◌, ◌≤◌, Bool, true, false, cond, ◌&&◌, eqb, leb, ◌⊎◌, List, [], ◌∷◌, ◌++◌, length, Ok, Err, Result, sym, refl, ap, ◌∙◌, subst, inl, inr, ⊎_elim, true≢false, append_assoc, append_nil, arith, le-leb, leb-true}
+use Rattle.std.proofs.Common.{◌≡◌, ℕ, ◌+◌, ◌<◌, ◌≤◌, Bool, true, false, cond, ◌&&◌, eqb, leb, ◌⊎◌, List, [], ◌∷◌, ◌++◌, length, Ok, Err, Result, sym, refl, ap, ◌∙◌, subst, inl, inr, ⊎_elim, true≢false, append_assoc, append-nil, arith, le-leb, leb-true}
 use borrow.Author.Tests.{lt-leb}
 use Rattle.findings.specs.Tables.{Found, Room}
 use Rattle.std.proofs.lemmas.List.{length-append}
@@ -42,10 +42,10 @@ module _ (room : Room) where
     room_for_item w = has_room names' stars' (omega (arith, w.exports, length-append names' (each item_names rest))) (omega (arith, w.reexports, length-append stars' (each star_of rest)))
 
   within_nothing : (names stars : List Place) → length names ≤ room.exports → length stars ≤ room.reexports → Within names stars nil
-  within_nothing names stars a b = record { exports = rw append_nil a; reexports = rw append_nil b }
+  within_nothing names stars a b = record { exports = rw append-nil a; reexports = rw append-nil b }
 
   all_listed : (names stars : List Place) (f : Forest) → Within names stars f → listed room names stars f ≡ Ok (listing (names ++ each item_names f) (stars ++ each star_of f))
-  all_listed names stars nil w = λ i. Ok (listing (sym (append_nil names) i) (sym (append_nil stars) i))
+  all_listed names stars nil w = λ i. Ok (listing (sym (append-nil names) i) (sym (append-nil stars) i))
   all_listed names stars (node j r f rest) w =
       let n : Node = record { row = r; kids = f } in
       let on = item_first names stars n rest j w in

@@ -1,5 +1,5 @@
 -- A text that is being written piece by piece, from f on: what is written has led to g, and the rest of the text is left.
-use Rattle.std.proofs.Common.{◌≡◌, ℕ, List, [], ◌++◌, Ok, Result, sym, refl, ◌∙◌, subst, append_assoc, append_nil}
+use Rattle.std.proofs.Common.{◌≡◌, ℕ, List, [], ◌++◌, Ok, Result, sym, refl, ◌∙◌, subst, append_assoc, append-nil}
 use Rattle.std.specs.Fmt.{IsPlainFormatter, WritesOnOk, HasWritten}
 use Rattle.std.specs.declared.fmt.Error.{Error}
 use Rattle.std.specs.declared.fmt.Formatter.{Formatter}
@@ -32,7 +32,7 @@ module _ {W : Type 0} (took : W → List ℕ → W → Type 0) where
   pub all_of_it : (f : Formatter W) (text : List ℕ) (g : Formatter W) → Going took f text g [] → WritesOnOk took f (Ok tt) text g
   all_of_it f text g going plain _ =
       let u = going plain in
-      has_written_of_eq took f u.written text g (sym (append_nil u.written) ∙ u.whole) u.put
+      has_written_of_eq took f u.written text g (sym (append-nil u.written) ∙ u.whole) u.put
 
   -- a piece was written, and then the last one with the answer r
   pub last_after : (f g h : Formatter W) (r : Result (Unit {0}) Error) (piece last text : List ℕ) → piece ++ last ≡ text → WritesOnOk took f (Ok tt) piece g → WritesOnOk took g r last h → WritesOnOk took f r text h

@@ -3,7 +3,7 @@ use Rattle.std.proofs.Common.{◌≡◌, ℕ, zero, suc, ◌+◌, ◌-◌, ◌<�
 use native.Mathlib.Nat.{sub_self}
 use lib.Seq.{paste}
 use Rattle.std.proofs.lemmas.List.Edits.{paste_none, paste_all, fill_from_more}
-use Rattle.std.proofs.lemmas.List.{length-replicate, length-take-le, drop_all, append_nil}
+use Rattle.std.proofs.lemmas.List.{length-replicate, length-take-le, drop_all, append-nil}
 use Rattle.std.proofs.lemmas.List.Filters.{FiltersInPlace, FiltersInPlace-more_no, FiltersInPlace-more_set}
 use Rattle.table.specs.Table.{Left, Rest, padded}
 use Rattle.table.proofs.Inserts.{take_padded, rest_padded}
@@ -26,7 +26,7 @@ module _ {X : Type 0} (d : List X) (from : ℕ) (z : X) where
       is
       ∙ paste_all d from (replicate (i - from) z) (i - from) (sym (length-replicate (i - from) z))
       ∙ ap (λ q. take from d ++ (replicate (i - from) z ++ q)) (drop_all (from + (i - from)) d (omega arith))
-      ∙ ap (λ q. take from d ++ q) (append_nil (replicate (i - from) z))
+      ∙ ap (λ q. take from d ++ q) (append-nil (replicate (i - from) z))
       ∙ ap (λ m. take from d ++ replicate (m - from) z) e
 
 -- the row that a filter in place reads is the one that stood there

@@ -12,21 +12,19 @@ use Rattle.tree.proofs.Grown.{nested}
 use Rattle.tree.proofs.Sections.{length_rows}
 
 -- the facts in the type of a tree, as its maker owes them
-abbrev pub Facts : List Row → List ℕ → Type 0
-Facts rs section =
-    (0 < length rs)
-    × (Above rs
-    × (Within rs
-    × (Whole rs
-    × (((j : ℕ) → j < length rs → Shallow rs j)
-    × (((j : ℕ) → j < length rs → LawfulShape rs j)
-    × (((j : ℕ) → j < length rs → ∥ LawfulText section (row_at rs j) ∥₁)
-    × Unit {0}))))))
+pub record Facts (rs : List Row) (section : List ℕ) : Type 0 where
+  pub rooted : 0 < length rs
+  pub above : Above rs
+  pub within : Within rs
+  pub whole : Whole rs
+  pub shallow : (j : ℕ) → j < length rs → Shallow rs j
+  pub shaped : (j : ℕ) → j < length rs → LawfulShape rs j
+  pub texts : (j : ℕ) → j < length rs → ∥ LawfulText section (row_at rs j) ∥₁
 
 facts_of_rows : (block : List ℕ) → Lawful block → 0 < length (rows block) → Facts (rows block) (text block)
 facts_of_rows block law some =
     let n = nested (rows block) law.ends in
-    (some, (n.above, (n.within, (n.whole, (law.depths, (law.shapes, ((λ j h. ∣ law.texts j h ∣₁), tt)))))))
+    record { rooted = some; above = n.above; within = n.within; whole = n.whole; shallow = law.depths; shaped = law.shapes; texts = λ j h. ∣ law.texts j h ∣₁ }
 
 pub facts_of : (block : List ℕ) → Lawful block → (rs : List Row) (section : List ℕ) → rs ≡ rows block → section ≡ text block → Facts rs section
 facts_of block law rs section same_rows same_text =
@@ -39,7 +37,7 @@ empty_script = record { kind = 1; mark = 1; offset = 0; length = 0; end = 1 } �
 
 empty_script_facts : Facts empty_script []
 unfolding empty_script enclosing forest grown
-empty_script_facts = (omega arith, (above, (within, (refl, (shallow, (shaped, (texts, tt)))))))
+empty_script_facts = record { rooted = omega arith; above = above; within = within; whole = refl; shallow = shallow; shaped = shaped; texts = texts }
   where
     above : Above empty_script
     above zero h = omega arith

@@ -20,8 +20,8 @@ at-child c =
     let rs = rows_of c.args.self.now in
     (subst (Under rs c.args.j) c.in-Some.is c.loop-child.invariant.0, subst (λ o. Passed rs o c.loop-child.count) c.in-Some.is c.loop-child.invariant.1)
 
-pub overflow-add-count : goal.overflow-add-count
-overflow-add-count c = let h = at-child c in let n = counted c.args.self.now in let f = c.args.self.now.few in omega arith
+pub overflow_add-count : goal.overflow_add-count
+overflow_add-count c = let h = at-child c in let n = counted c.args.self.now in let f = c.args.self.now.few in omega arith
 
 pub loop-child-preserved : goal.loop-child-preserved
 loop-child-preserved c =
