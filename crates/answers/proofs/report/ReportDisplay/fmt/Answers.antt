@@ -15,7 +15,7 @@ lawful count kind script =
 
 pub returns-in-Refused-clause-writes : goal.returns-in-Refused-clause-writes
 returns-in-Refused-clause-writes g c =
-    let called : refused c.fault-fault.result c.reason_words.result.now ≡ _ = λ i. refused (c.fault-fault.ensures i) (c.reason_words.ensures i) in
+    let called : refused c.fault-fault.result c.reason-words.result.now ≡ _ = λ i. refused (c.fault-fault.ensures i) (c.reason-words.ensures i) in
     subst (λ bs. WritesOnOk g.W.Write.write_str_gives c.args.f.now c.write.result bs c.write.new.self) (called ∙ sym (ap report_text c.in-Refused.is)) c.write.ensures.writes
 
 pub returns-in-Lawful-clause-writes : goal.returns-in-Lawful-clause-writes
