@@ -3,6 +3,7 @@
 
 ghost use Rattle.std.specs.Prelude.{◌≡◌, ◌||◌, ◌==◌};
 
+use anyhow::anyhow;
 use answers::{LONGEST_BLOCK, answer_stream, report_for};
 use std::env::Args;
 use std::fs::File;
@@ -22,7 +23,7 @@ fn read_block(rt: &HostRuntime, path: &str) -> io::Result<Vec<u8>> {
 /// Prints what the block in a file is.
 fn tree_command(rt: &HostRuntime, mut args: Args) -> anyhow::Result<()> {
     let (Some(path), None) = (args.next(), args.next()) else {
-        return Err(USAGE.into());
+        return Err(anyhow!(USAGE));
     };
     let name = path.as_str();
     let report = report_for(0, &read_block(rt, name)?);
@@ -42,12 +43,12 @@ fn findings_command(rt: &HostRuntime, args: Args) -> anyhow::Result<()> {
     let mut sizes = 0usize;
     for size in args {
         if size.as_str().parse::<u32>().is_err() {
-            return Err(USAGE.into());
+            return Err(anyhow!(USAGE));
         }
         sizes = sizes.saturating_add(1);
     }
     if !may_be_given(sizes) {
-        return Err(USAGE.into());
+        return Err(anyhow!(USAGE));
     }
     let mut input = BufReader::new(rt.alloc(), rt.stdin())?;
     let mut output = BufWriter::new(rt.alloc(), rt.stdout())?;
@@ -60,12 +61,12 @@ fn run(rt: &HostRuntime) -> anyhow::Result<()> {
     let mut args = env::args(rt)?;
     let _ = args.next();
     let Some(command) = args.next() else {
-        return Err(USAGE.into());
+        return Err(anyhow!(USAGE));
     };
     match command.as_bytes() {
         b"tree" => tree_command(rt, args),
         b"findings" => findings_command(rt, args),
-        _ => Err(USAGE.into()),
+        _ => Err(anyhow!(USAGE)),
     }
 }
 

@@ -12,7 +12,7 @@ pub(crate) trait Manner<R> {
     fn write_row<W: fmt::Write>(&self, row: &R, f: &mut fmt::Formatter<W>) -> fmt::Result
     where
         Self: Sized,
-        ensures { WritesOnOk write_str_gives f.old result (text self.now row.now) f.new };
+        ensures { WritesOnOk W.write_str_gives f.old result (text self.now row.now) f.new };
 }
 
 /// Writes a comma and a row, for each row.
@@ -21,7 +21,7 @@ fn write_after_commas<R, M: Manner<R>, W: fmt::Write>(
     rows: &[R],
     f: &mut fmt::Formatter<W>,
 ) -> fmt::Result
-    ensures { WritesOnOk W.Write.write_str_gives f.old result (after_commas (M.Manner.text manner.now) rows.now) f.new }
+    ensures { WritesOnOk W.write_str_gives f.old result (after_commas (M.Manner.text manner.now) rows.now) f.new }
 {
     for row in rows {
         f.write_str(",")?;
@@ -36,7 +36,7 @@ pub(crate) fn write_list<R, M: Manner<R>, W: fmt::Write>(
     rows: &[R],
     f: &mut fmt::Formatter<W>,
 ) -> fmt::Result
-    ensures { WritesOnOk W.Write.write_str_gives f.old result (listed (M.Manner.text manner.now) rows.now) f.new }
+    ensures { WritesOnOk W.write_str_gives f.old result (listed (M.Manner.text manner.now) rows.now) f.new }
 {
     match rows {
         [] => f.write_str("-"),

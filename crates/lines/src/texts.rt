@@ -22,7 +22,7 @@ fn hex_digit(n: u8) -> char
 
 /// Writes a byte by its two digits.
 fn write_byte<W: fmt::Write>(byte: u8, f: &mut fmt::Formatter<W>) -> fmt::Result
-    ensures { WritesOnOk write_str_gives f.old result (hex_bytes (byte ∷ [])) f.new }
+    ensures { WritesOnOk W.write_str_gives f.old result (hex_bytes (byte ∷ [])) f.new }
 {
     let high = hex_digit(byte / 16);
     let low = hex_digit(byte % 16);
@@ -31,7 +31,7 @@ fn write_byte<W: fmt::Write>(byte: u8, f: &mut fmt::Formatter<W>) -> fmt::Result
 
 /// Writes the bytes of the loose reading of a text.
 fn write_loose<W: fmt::Write>(text: &[u8], f: &mut fmt::Formatter<W>) -> fmt::Result
-    ensures { WritesOnOk write_str_gives f.old result (hex_bytes (loose text.now)) f.new }
+    ensures { WritesOnOk W.write_str_gives f.old result (hex_bytes (loose text.now)) f.new }
 {
     let mut left = LooseBytes::new(text);
     while let Some(byte) = left.next() {

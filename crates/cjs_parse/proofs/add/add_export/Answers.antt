@@ -11,7 +11,7 @@ returns-in_err-insert c =
     let T = c.args.text.now in
     let r = c.in_err-insert.ensures.after in
     let f = r.full in
-    stuck_by T v _ _ c.from-residual.result c.from-residual.ensures.0
+    stuck_by T v _ _ c.from_residual.result c.from_residual.ensures.0
     (record {
       full = one_full T (room_of v) (Export c.args.export) (state v) (λ h. let x = h.exports in omega arith);
       room = λ i. record { bindings = (room_of v).bindings; exports = length (r.rows_is i); reexports = (room_of v).reexports; unsafes = (room_of v).unsafes };

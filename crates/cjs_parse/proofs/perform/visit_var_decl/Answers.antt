@@ -14,7 +14,7 @@ returns-in_err-perform c =
     let u = c.perform.new.tables in
     let e = c.visit_declarator.result in
     let o = rw c.in-Some.is at c.loop-next.invariant in
-    stuck_by T v _ u c.from-residual.result c.from-residual.ensures.0
+    stuck_by T v _ u c.from_residual.result c.from_residual.ensures.0
     (onward_stuck T (visit_declarator T) (tree_rows c.args.tree.now) c.args.j v w u c.in-Some.d e o c.visit_declarator.ensures (subst (λ t. Stuck t w (once e) u) c.text_section-text.ensures c.in_err-perform.ensures))
 
 pub loop-next-preserved : goal.loop-next-preserved

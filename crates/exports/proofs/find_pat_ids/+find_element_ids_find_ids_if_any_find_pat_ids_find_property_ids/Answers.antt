@@ -14,7 +14,7 @@ pub find_element_ids-returns-in_err-find_pat_ids : goal.find_element_ids-returns
 find_element_ids-returns-in_err-find_pat_ids t c =
     let tree = c.args.tree.now in
     stop of_elements (of_elements (children (tree_rows tree) c.args.j)) (bound_names (at tree c.in-Some.c)) (tree_rows tree) c.args.j c.in-Some.c c.loop-next.next c.args.names.now c.loop-next.names c.find_pat_ids.new.names
-    c.in-Some.is refl c.loop-next.invariant.1 _ c.from-residual.result c.in_err-find_pat_ids.ensures c.from-residual.ensures.0
+    c.in-Some.is refl c.loop-next.invariant.1 _ c.from_residual.result c.in_err-find_pat_ids.ensures c.from_residual.ensures.0
 
 pub find_element_ids-loop-next-preserved : goal.find_element_ids-loop-next-preserved
 find_element_ids-loop-next-preserved t c =
@@ -31,7 +31,7 @@ pub find_property_ids-returns-in_err-find_ids_if_any : goal.find_property_ids-re
 find_property_ids-returns-in_err-find_ids_if_any t c =
     let tree = c.args.tree.now in
     stop of_properties (of_properties (children (tree_rows tree) c.args.j)) (property_names (at tree c.in-Some.c)) (tree_rows tree) c.args.j c.in-Some.c c.loop-next.next c.args.names.now c.loop-next.names c.find_ids_if_any.new.names
-    c.in-Some.is refl c.loop-next.invariant.1 _ c.from-residual.result (rw c.property_pattern.ensures.names at c.in_err-find_ids_if_any.ensures) c.from-residual.ensures.0
+    c.in-Some.is refl c.loop-next.invariant.1 _ c.from_residual.result (rw c.property_pattern.ensures.names at c.in_err-find_ids_if_any.ensures) c.from_residual.ensures.0
 
 pub find_property_ids-loop-next-preserved : goal.find_property_ids-loop-next-preserved
 find_property_ids-loop-next-preserved t c =

@@ -10,7 +10,7 @@ returns-in_err-find_ids_if_any c =
     let tree = c.args.tree.now in
     let names = first_bound tree c.in-Some.c c.first_child.result c.first_child.ensures.is in
     stop of_declarators (of_declarators (children (tree_rows tree) c.args.j)) (of_first (children (tree_rows tree) c.in-Some.c)) (tree_rows tree) c.args.j c.in-Some.c c.loop-next.next c.args.names.now c.loop-next.names c.find_ids_if_any.new.names
-    c.in-Some.is refl c.loop-next.invariant _ c.from-residual.result (rw names at c.in_err-find_ids_if_any.ensures) c.from-residual.ensures.0
+    c.in-Some.is refl c.loop-next.invariant _ c.from_residual.result (rw names at c.in_err-find_ids_if_any.ensures) c.from_residual.ensures.0
 
 pub loop-next-preserved : goal.loop-next-preserved
 loop-next-preserved c =

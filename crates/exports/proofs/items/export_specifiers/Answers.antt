@@ -11,7 +11,7 @@ pub returns-in_err-append_if_any : goal.returns-in_err-append_if_any
 returns-in_err-append_if_any c =
     let tree = c.args.tree.now in
     stop (each specifier_names) (each specifier_names (children (tree_rows tree) c.args.j)) (specifier_names (at tree c.in-Some.s)) (tree_rows tree) c.args.j c.in-Some.s c.loop-next.next c.args.names.now c.loop-next.names c.append_if_any.new.table
-    c.in-Some.is refl c.loop-next.invariant _ c.from-residual.result (rw c.specifier_name.ensures at c.in_err-append_if_any.ensures) c.from-residual.ensures.0
+    c.in-Some.is refl c.loop-next.invariant _ c.from_residual.result (rw c.specifier_name.ensures at c.in_err-append_if_any.ensures) c.from_residual.ensures.0
 
 pub loop-next-preserved : goal.loop-next-preserved
 loop-next-preserved c =
