@@ -6,3 +6,4 @@ mod Entered
 mod Named
 mod Walking
 mod Cleared
+mod RequireArg
