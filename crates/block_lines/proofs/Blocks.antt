@@ -15,16 +15,16 @@ use Rattle.block_lines.specs.declared.analyses.Analyses.{Analyses}
 same_analysis : (m n : ℕ) (room : Room) (o p : Result Found ℕ) (r : Result (Unit {0}) FindingsFault) (t : FindingsTables) → m ≡ n → o ≡ p → Analysed m room o r t → Analysed n room p r t
 same_analysis m n room o p r t e q a = subst (λ k. Analysed k room p r t) e (subst (λ x. Analysed m room x r t) q a)
 
-pub of_block : (m : ℕ) (block : List ℕ) (tree : Tree) (s t : FindingsTables) (a : Analyses) (s' t' : FindingsTables) → TreeOf m block tree → TreeAnalysis tree s t a s' t' → Analysis m block s t a s' t'
-of_block m block tree s t a s' t' o f =
+pub of_block : (m : ℕ) (block : List ℕ) (tree : Tree) (s t : FindingsTables) (a : Analyses) (s' t' : FindingsTables) → TreeOf block tree → tree_module tree ≡ m → TreeAnalysis tree s t a s' t' → Analysis m block s t a s' t'
+of_block m block tree s t a s' t' o e f =
     record {
       lawful = o.lawful;
       text_is = f.text_is ∙ o.same_text;
       script_is = f.script_is ∙ ap is_script o.same_rows;
       cjs_is =
-          same_analysis (tree_module tree) m (room_of s) (cjs_outcome (room_of s) (tree_text tree) (tree_rows tree)) (cjs_of (room_of s) block) a.cjs s' o.same-module
+          same_analysis (tree_module tree) m (room_of s) (cjs_outcome (room_of s) (tree_text tree) (tree_rows tree)) (cjs_of (room_of s) block) a.cjs s' e
           (λ i. cjs_outcome (room_of s) (o.same_text i) (o.same_rows i)) f.cjs_is;
       es_is =
-          same_analysis (tree_module tree) m (room_of t) (es_outcome (room_of t) (tree_rows tree)) (es_of (room_of t) block) a.es t' o.same-module
+          same_analysis (tree_module tree) m (room_of t) (es_outcome (room_of t) (tree_rows tree)) (es_of (room_of t) block) a.es t' e
           (ap (es_outcome (room_of t)) o.same_rows) f.es_is;
     }
