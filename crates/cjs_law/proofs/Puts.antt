@@ -1,9 +1,9 @@
 -- A row that takes the place of another of its key: the last of each key, kept as the first of the list turned round.
-use Rattle.std.proofs.Common.{◌≡◌, ℕ, Bool, true, false, ◌⊎◌, ◌↔◌, List, [], ◌∷◌, ◌++◌, Ordering, Less, Equal, Greater, sym, refl, ap, ◌∙◌, subst, inl, inr, ⊎_elim}
+use Rattle.std.proofs.Common.{◌≡◌, ℕ, ◌⊎◌, List, [], ◌∷◌, ◌++◌, Ordering, Less, Equal, Greater, sym, refl, ap, ◌∙◌, subst, inl, inr, ⊎_elim}
 use Rattle.table.specs.Table.{by_rank, put_row}
 use Rattle.text.specs.Reading.{order}
 use Rattle.text.proofs.Orders.{order_same}
-use Rattle.cjs_law.specs.Lists.{In, First, Above, Ascends, Lists, insert, insert_all}
+use Rattle.cjs_law.specs.Lists.{In, Above, Ascends, Lists, insert, insert_all}
 use Rattle.cjs_law.proofs.Order.{order_own, order_flip}
 use Rattle.cjs_law.proofs.Listed.{above_in, above_less, not_own, split_front}
 

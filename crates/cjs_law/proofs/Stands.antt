@@ -1,7 +1,5 @@
 -- What is computed is the outcome in words, and there is no other.
-use Rattle.std.proofs.Common.{◌≡◌, ℕ, ◌≤◌, Bool, true, false, cond, ◌&&◌, leb, ◌⊎◌, ◌↔◌, List, [], ◌∷◌, ◌++◌, map, length, Ok, Err, Result, sym, refl, ap, ◌∙◌, subst, inl, inr, ⊎_elim, true≢false, arith, le-leb, leb-true}
-use Rattle.text.specs.declared.place.Place.{Place}
-use Rattle.cjs_law.specs.Lists.{Lists, insert_all}
+use Rattle.std.proofs.Common.{◌≡◌, ℕ, Bool, true, false, cond, ◌&&◌, List, [], ◌∷◌, ◌++◌, map, Ok, Err, Result, sym, refl, ap, ◌∙◌, subst, ⊎_elim, true≢false, arith, le-leb, leb-true}
 use Rattle.cjs_law.specs.Findings.{Finds, Held, Fits, Always, Overflows, Outcome, outcome_after, held, safe, fits, loosely, by_name, bindings, exported, reexported, marked_unsafe}
 use Rattle.cjs_law.specs.Walk.{Act}
 use Rattle.findings.specs.Tables.{Found, Room}

@@ -1,8 +1,7 @@
 -- What the acts of a walk come to, in the subject's own words.
-use Rattle.std.specs.Prelude.{◌≡◌, ℕ, ◌⊎◌, ◌↔◌, List, [], ◌∷◌, ◌++◌, Result, ◌≢◌}
+use Rattle.std.specs.Prelude.{◌≡◌, ℕ, ◌⊎◌, ◌↔◌, List, ◌∷◌, ◌++◌, Result, ◌≢◌}
 use Rattle.text.specs.declared.place.Place.{Place}
 use Rattle.findings.specs.Tables.{Found, Room}
-use Rattle.cjs_law.specs.declared.event.Event.{Event}
 use Rattle.cjs_law.specs.declared.event.Event.TheVariants.{Export, Reexport, Replace, Unsafe}
 use Rattle.cjs_law.specs.Findings.{Finds, Outcome, loosely, outcome}
 use Rattle.cjs_law.specs.Lists.{Has, In}

@@ -1,5 +1,5 @@
 -- The walk: the rows that it comes to, in order, and the acts there.
-use Rattle.std.specs.Prelude.{◌≡◌, ℕ, ◌<◌, Bool, false, cond, ◌&&◌, ◌⊎◌, ◌↔◌, List, [], ◌∷◌, ◌++◌, length, Some, None, Option, ◌==◌}
+use Rattle.std.specs.Prelude.{◌≡◌, ℕ, Bool, false, cond, ◌&&◌, ◌⊎◌, ◌↔◌, List, [], ◌∷◌, ◌++◌, length, Some, None, Option, ◌==◌}
 use Rattle.std.specs.Str.{bytes_eq}
 use Rattle.kinds.specs.Kinds.{assign}
 use Rattle.text.specs.declared.place.Place.{Place}

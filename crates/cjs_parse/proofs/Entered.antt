@@ -1,5 +1,5 @@
 -- The tables after some acts take in the events at a row as the outcome has it.
-use Rattle.std.proofs.Common.{◌≡◌, ℕ, Bool, true, false, cond, List, [], ◌∷◌, ◌++◌, Some, None, Ok, Err, Option, Result, sym, refl, ap, ◌∙◌, subst}
+use Rattle.std.proofs.Common.{◌≡◌, ℕ, Bool, true, false, cond, List, [], ◌∷◌, ◌++◌, Some, None, Err, Option, sym, refl, ap, ◌∙◌, subst}
 use Rattle.table.specs.declared.binding.Binding.{Binding}
 use Rattle.text.specs.declared.place.Place.{Place}
 use Rattle.findings.specs.Tables.{Found, Room}

@@ -1,6 +1,5 @@
 -- The walk from one row to the next.
-use Rattle.std.proofs.Common.{◌≡◌, ℕ, ◌+◌, ◌<◌, ◌≤◌, Bool, true, false, cond, List, [], ◌∷◌, ◌++◌, length, Some, None, Ok, Err, Option, sym, refl, ap, ◌∙◌, subst, append_assoc, arith}
-use Rattle.std.proofs.lemmas.Bool.{cond-true, cond-false}
+use Rattle.std.proofs.Common.{◌≡◌, ℕ, ◌+◌, ◌<◌, ◌≤◌, Bool, true, false, cond, List, [], ◌∷◌, ◌++◌, length, Ok, sym, refl, ap, ◌∙◌, subst, append_assoc, arith}
 use Rattle.tree.specs.declared.row.Row.{Row}
 use Rattle.tree.specs.Forest.{Forest, Nested, children, end_at, forest, nil, node, row_at}
 use Rattle.tree.proofs.Grown.{forest_none}

@@ -7,7 +7,7 @@ use Rattle.text.specs.declared.place.Place.{Place}
 use Rattle.tree.specs.declared.row.Row.{Row}
 use Rattle.tree.specs.Forest.{Forest, nil, node}
 use Rattle.cjs_rules.specs.Chain.{◌>>=◌, ◌>>◌, ◌or_else◌, so}
-use Rattle.cjs_rules.specs.Nodes.{Node, any_of_kind, child, final, has_count, is, past, place, read, text_of}
+use Rattle.cjs_rules.specs.Nodes.{Node, any_of_kind, child, final, has_count, is, place, read, text_of}
 use Rattle.cjs_rules.specs.Names.{Name, named, nameless, quoted}
 use Rattle.cjs_rules.specs.Words.{is_ident, is_plain_str}
 

@@ -3,8 +3,8 @@
 
 ghost use Rattle.std.specs.Prelude.{◌≡◌, ◌||◌, ◌==◌};
 
-use anyhow::anyhow;
 use answers::{LONGEST_BLOCK, answer_stream, report_for};
+use anyhow::anyhow;
 use std::env::Args;
 use std::fs::File;
 use std::io::{BufReader, BufWriter, Read, Write};

@@ -1,9 +1,9 @@
 -- Appending in steps: after a step that was accepted the rest follows, and after one that was refused the rest is cut off.
-use Rattle.std.proofs.Common.{◌≡◌, ℕ, suc, ◌+◌, ◌-◌, ◌<◌, ◌≤◌, Bool, true, false, leb, List, [], ◌∷◌, ◌++◌, length, take, drop, set, replicate, is_ok, is_err, Ok, Err, Result, sym, refl, ap, ◌∙◌, subst, append_assoc, append-nil, add-one, arith, le-leb}
-use borrow.Author.Tests.{lt-leb, true-leb, false-leb, lt-false, le-true}
+use Rattle.std.proofs.Common.{◌≡◌, ℕ, suc, ◌+◌, ◌-◌, ◌<◌, ◌≤◌, true, false, leb, List, [], ◌∷◌, ◌++◌, length, take, drop, set, replicate, is_ok, is_err, Ok, Err, Result, sym, refl, ap, ◌∙◌, subst, append_assoc, append-nil, arith}
+use borrow.Author.Tests.{true-leb, false-leb, lt-false, le-true}
 use Rattle.std.proofs.lemmas.List.{drop_at, drop-drop, drop-replicate, length-append, length_push, length-replicate, length-take, length-take-le, set_split, take_all, take-append-drop, take-append-le, take_at}
 use Rattle.table.specs.Kinds.{no_place}
-use Rattle.table.specs.Table.{Left, Rest, padded}
+use Rattle.table.specs.Table.{Left, Rest}
 use Rattle.table.specs.declared.table.Full.{Full}
 use Rattle.table.specs.declared.table.OrderedTable.{OrderedTable}
 use Rattle.text.specs.declared.place.Place.{Place}

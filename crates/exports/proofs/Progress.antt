@@ -1,6 +1,6 @@
 -- The walk over the items: what an item adds to the two tables, and what the walk comes to from here on.
-use Rattle.std.proofs.Common.{◌≡◌, ℕ, ◌≤◌, Bool, true, false, cond, ◌&&◌, eqb, leb, List, [], ◌∷◌, ◌++◌, length, take, is_ok, is_err, Some, None, Ok, Err, Option, Result, sym, refl, ap, ◌∙◌, subst, true≢false, arith, leb-true}
-use Rattle.findings.specs.Tables.{Analysed, Found, Hold, Room, SameLenders, nothing, room_of}
+use Rattle.std.proofs.Common.{◌≡◌, ℕ, ◌≤◌, Bool, true, false, cond, ◌&&◌, eqb, leb, List, [], ◌++◌, length, take, is_ok, is_err, Some, None, Ok, Err, Option, Result, sym, refl, ap, ◌∙◌, subst, true≢false, arith, leb-true}
+use Rattle.findings.specs.Tables.{Analysed, Found, Hold, SameLenders, nothing, room_of}
 use Rattle.findings.specs.declared.refusal.FindingsFault.{FindingsFault}
 use Rattle.findings.specs.declared.refusal.FindingsFault.TheVariants.{Full as NoRoom}
 use Rattle.findings.specs.declared.tables.FindingsTables.{FindingsTables}
@@ -12,9 +12,9 @@ use Rattle.table.specs.declared.table.Full.{Full}
 use Rattle.table.specs.declared.table.OrderedTable.{OrderedTable}
 use Rattle.text.specs.declared.place.Place.{Place}
 use Rattle.tree.specs.declared.row.Row.{Row}
-use Rattle.tree.specs.Forest.{Forest, children, node, row_at, siblings, since}
-use Rattle.cjs_rules.specs.Nodes.{Node, node_at}
-use Rattle.exports.specs.Append.{Appended, Extended, ItemListed, Ready, capacity, held}
+use Rattle.tree.specs.Forest.{children, row_at, siblings, since}
+use Rattle.cjs_rules.specs.Nodes.{node_at}
+use Rattle.exports.specs.Append.{Appended, ItemListed, Ready, held}
 use Rattle.exports.specs.Beyond.{item_names}
 use Rattle.exports.specs.ExportedNames.{star_of}
 use Rattle.exports.specs.Listing.{es_outcome, has_enough_room, items, listed, listing}

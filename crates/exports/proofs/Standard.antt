@@ -1,5 +1,5 @@
 -- An item with no part outside the standard exports its ExportedNames.
-use Rattle.std.proofs.Common.{◌≡◌, Bool, true, false, cond, ◌||◌, eqb, List, [], ◌++◌, Some, None, Option, sym, refl, ap, ◌∙◌, true≢false}
+use Rattle.std.proofs.Common.{◌≡◌, Bool, true, false, cond, ◌||◌, eqb, List, [], ◌++◌, Some, None, Option, refl, true≢false}
 use Rattle.kinds.specs.Kinds.{default_spec, export_decl, export_default, export_named}
 use Rattle.std.proofs.lemmas.Bool.{cond-false}
 use Rattle.text.specs.declared.place.Place.{Place}

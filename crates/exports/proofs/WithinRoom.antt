@@ -1,18 +1,18 @@
 -- The outcome in words: all is listed where it fits, and else the first item up to which it does not fit is refused.
-use Rattle.std.proofs.Common.{◌≡◌, ℕ, ◌+◌, ◌<◌, ◌≤◌, Bool, true, false, cond, ◌&&◌, eqb, leb, ◌⊎◌, List, [], ◌∷◌, ◌++◌, length, Ok, Err, Result, sym, refl, ap, ◌∙◌, subst, inl, inr, ⊎_elim, true≢false, append_assoc, append-nil, arith, le-leb, leb-true}
+use Rattle.std.proofs.Common.{◌≡◌, ℕ, ◌+◌, ◌<◌, ◌≤◌, true, false, eqb, leb, List, [], ◌++◌, length, Ok, Err, Result, sym, refl, ap, ◌∙◌, subst, inl, inr, ⊎_elim, true≢false, append_assoc, append-nil, arith, le-leb, leb-true}
 use borrow.Author.Tests.{lt-leb}
 use Rattle.findings.specs.Tables.{Found, Room}
 use Rattle.std.proofs.lemmas.List.{length-append}
 use Rattle.std.proofs.lemmas.Bool.{cases_Bool, cases_order, cond_both, cond-false, cond-true}
 use Rattle.text.specs.declared.place.Place.{Place}
 use Rattle.tree.specs.declared.row.Row.{Row}
-use Rattle.tree.specs.Enclosure.{EnclosesDirectly, Rises, Stands}
+use Rattle.tree.specs.Enclosure.{Rises, Stands}
 use Rattle.tree.specs.Forest.{Forest, Nested, children, nil, node, row_at}
 use Rattle.tree.proofs.Direct.{children_are_enclosed_directly, children_stand_in_order}
 use Rattle.cjs_rules.specs.Nodes.{Node}
 use Rattle.exports.specs.Beyond.{item_names}
 use Rattle.exports.specs.ExportedNames.{each, star_of}
-use Rattle.exports.specs.Listing.{FirstWithoutRoom, Fits, ListedWholeOrRefusedAtTheFirstChildWithoutRoom, es_outcome, has_enough_room, items, listed, listing, listing_of, up_to}
+use Rattle.exports.specs.Listing.{FirstWithoutRoom, Fits, ListedWholeOrRefusedAtTheFirstChildWithoutRoom, es_outcome, has_enough_room, items, listed, listing, up_to}
 use Rattle.exports.proofs.Progress.{and_left, and_right}
 
 module _ (room : Room) where

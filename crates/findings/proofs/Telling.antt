@@ -2,10 +2,10 @@
 use Rattle.std.proofs.Common.{◌≡◌, ℕ, ◌+◌, ◌<◌, ◌≤◌, Bool, true, false, cond, not, ◌⊎◌, List, sym, refl, ap, ◌∙◌, subst, inl, inr, ⊎_elim, true≢false, arith}
 use Rattle.std.proofs.lemmas.Bool.{cond-false, cond-true}
 use Rattle.tree.specs.declared.row.Row.{Row}
-use Rattle.tree.specs.Enclosure.{Carries, EnclosesDirectly, Rises, Stands}
-use Rattle.tree.specs.Forest.{Forest, Nested, children, nil, node, row_at}
+use Rattle.tree.specs.Enclosure.{Carries, Rises, Stands}
+use Rattle.tree.specs.Forest.{Forest, children, nil, node, row_at}
 use Rattle.tree.proofs.Direct.{children_are_enclosed_directly, children_carry_their_rows, children_stand_in_order}
-use Rattle.findings.specs.Script.{FirstTellingChildDecides, Tells, first_shows, is_script, shows_module, shows_script}
+use Rattle.findings.specs.Script.{FirstTellingChildDecides, Tells, first_shows, shows_module, shows_script}
 
 module _ (rs : List Row) where
   abbrev kind : ℕ → ℕ

@@ -2,7 +2,6 @@
 use Rattle.std.specs.Prelude.{◌≡◌, ℕ, List, [], length, Ok, Err, Result}
 use Rattle.fault.specs.declared.Fault.{Fault}
 use Rattle.fault.specs.declared.Layer.TheVariants.{Findings}
-use Rattle.table.specs.Kind.{Kind}
 use Rattle.table.specs.Kinds.{bindings, places}
 use Rattle.table.specs.Table.{Left}
 use Rattle.table.specs.declared.binding.Binding.{Binding}

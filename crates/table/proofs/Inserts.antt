@@ -1,11 +1,10 @@
 -- What insertion leaves.
-use Rattle.std.proofs.Common.{◌≡◌, ℕ, zero, suc, ◌+◌, ◌-◌, ◌<◌, ◌≤◌, Bool, true, false, cond, ltb, List, [], ◌∷◌, ◌++◌, map, length, get_or, take, drop, set, replicate, Ok, Err, filter, Result, Ordering, Less, Equal, Greater, sym, refl, ap, ◌∙◌, subst, arith, rules, lt-ltb}
+use Rattle.std.proofs.Common.{◌≡◌, ℕ, zero, suc, ◌+◌, ◌-◌, ◌<◌, ◌≤◌, Bool, true, false, cond, List, [], ◌∷◌, ◌++◌, map, length, get_or, take, drop, set, replicate, Ok, Err, filter, Result, Ordering, Less, Equal, Greater, sym, refl, ap, ◌∙◌, subst, arith, lt-ltb}
 use Rattle.std.specs.Ordering.{ordering_reverse}
 use Rattle.std.specs.List.{insert}
 use Rattle.table.specs.Order.{TotalOrder}
 use Rattle.table.specs.Table.{by_rank, later, place, Ascends, Entered, InOrder, insert_row, put_row, padded, Rest, Stored, Refused}
-use native.Mathlib.Nat.{sub_self}
-use Rattle.std.proofs.lemmas.List.{length-take-le, length-set, set-append_left, length-append, length-replicate, take-append-drop, drop-drop, drop-replicate, take_at, drop_at, take_all, drop_all}
+use Rattle.std.proofs.lemmas.List.{length-take-le, length-set, set-append_left, length-append, length-replicate, take-append-drop, drop-drop, drop-replicate, take_at, drop_at}
 use Rattle.std.proofs.lemmas.List.Edits.{length-insert}
 use Rattle.std.proofs.lemmas.Bool.{le-ltb}
 

@@ -1,11 +1,11 @@
 -- Rows that are zeroed, and rows that are moved to the front.
-use Rattle.std.proofs.Common.{◌≡◌, ℕ, zero, suc, ◌+◌, ◌-◌, ◌<◌, ◌≤◌, Bool, true, false, List, [], ◌∷◌, ◌++◌, map, length, get_or, take, drop, set, replicate, sym, refl, ap, ◌∙◌, subst, arith}
+use Rattle.std.proofs.Common.{◌≡◌, ℕ, ◌+◌, ◌-◌, ◌<◌, ◌≤◌, Bool, true, false, List, ◌++◌, length, get_or, take, set, replicate, sym, ap, ◌∙◌, subst, arith}
 use native.Mathlib.Nat.{sub_self}
 use lib.Seq.{paste}
 use Rattle.std.proofs.lemmas.List.Edits.{paste_none, paste_all, fill_from_more}
 use Rattle.std.proofs.lemmas.List.{length-replicate, length-take-le, drop_all, append-nil}
 use Rattle.std.proofs.lemmas.List.Filters.{FiltersInPlace, FiltersInPlace-more_no, FiltersInPlace-more_set}
-use Rattle.table.specs.Table.{Left, Rest, padded}
+use Rattle.table.specs.Table.{Left, Rest}
 use Rattle.table.proofs.Inserts.{take_padded, rest_padded}
 
 module _ {X : Type 0} (d : List X) (from : ℕ) (z : X) where

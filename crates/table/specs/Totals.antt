@@ -1,11 +1,11 @@
 -- The order of numbers one after the other is total.
-use Rattle.std.specs.Prelude.{◌≡◌, ℕ, ◌<◌, Bool, true, false, List, [], ◌∷◌, refl}
+use Rattle.std.specs.Prelude.{◌≡◌, ℕ, ◌<◌, List, [], ◌∷◌, refl}
 use Rattle.std.specs.declared.cmp.Ordering.TheVariants.{Less, Equal, Greater}
 use Rattle.std.specs.declared.cmp.Ordering.{Ordering}
-use Rattle.std.proofs.Common.{sym, ap, ◌∙◌, true≢false}
+use Rattle.std.proofs.Common.{ap, true≢false}
 use Rattle.std.specs.Ordering.{is_lt, is_gt, ordering_then, MatchOrdering, nat_cmp}
 use Rattle.std.specs.Cmp.{nat_cmp_total, ranks}
-use Rattle.std.specs.Cmp.Lexicographic.{slice_cmp, lists_total}
+use Rattle.std.specs.Cmp.Lexicographic.{lists_total}
 use Rattle.table.specs.Order.{TotalOrder}
 use Rattle.text.specs.Reading.{order}
 

@@ -1,5 +1,5 @@
 -- The order of lists of bytes: it tells different lists apart.
-use Rattle.std.proofs.Common.{◌≡◌, ℕ, ◌<◌, List, [], ◌∷◌, Ordering, Less, Equal, Greater, sym, refl, ap, ◌∙◌, subst, arith}
+use Rattle.std.proofs.Common.{◌≡◌, ℕ, ◌<◌, List, [], ◌∷◌, Ordering, Less, Equal, Greater, refl, ap, ◌∙◌, subst, arith}
 use Rattle.std.specs.Prelude.{Bool, Decides, ◌==◌}
 use Rattle.std.specs.Ordering.{ordering_index, ordering_then, MatchOrdering}
 use Rattle.std.specs.Cmp.{Equal-is, ranks, nat_cmp_total, tied_itself}

@@ -1,5 +1,5 @@
 -- The rows at the top of a tree are those that no other row of it encloses, in order.
-use Rattle.std.proofs.Common.{◌≡◌, ℕ, zero, suc, ◌+◌, ◌<◌, ◌≤◌, ◌⊎◌, List, sym, refl, subst, inl, inr, ⊎_elim, arith}
+use Rattle.std.proofs.Common.{◌≡◌, ℕ, zero, suc, ◌+◌, ◌<◌, ◌≤◌, List, sym, refl, subst, inl, inr, ⊎_elim, arith}
 use Rattle.std.proofs.lemmas.Bool.{cases_lt}
 use Rattle.tree.specs.declared.row.Row.{Row}
 use Rattle.tree.specs.Enclosure.{Carries, ChildrenAreEnclosedDirectly, ChildrenCarryTheirRows, ChildrenStandInOrder, EnclosesDirectly, Rises, Stands}

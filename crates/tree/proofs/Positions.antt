@@ -1,10 +1,10 @@
 -- Children that fit one after the other fit place by place.
-use Rattle.std.proofs.Common.{◌≡◌, ℕ, zero, suc, ◌+◌, ◌<◌, Bool, true, false, cond, ◌&&◌, eqb, List, [], ◌∷◌, length, get_or, sym, refl, ap, ◌∙◌, ⊎_elim, arith}
+use Rattle.std.proofs.Common.{◌≡◌, ℕ, zero, suc, ◌+◌, ◌<◌, Bool, true, false, cond, eqb, List, [], ◌∷◌, length, get_or, sym, refl, ap, ◌∙◌, ⊎_elim, arith}
 use Rattle.std.proofs.lemmas.Bool.{and_from, and_parts, cases_eq, eq-eqb, ne_eqb}
 use Rattle.kinds.specs.declared.shape.Group.{Group}
 use Rattle.kinds.specs.Shape.{first_child, has, last_child, later_child}
 use Rattle.tree.specs.declared.row.Row.{Row}
-use Rattle.tree.specs.Shaped.{ChildrenFitByPlace, children_fit, each_fits, group_for, none_left}
+use Rattle.tree.specs.Shaped.{ChildrenFitByPlace, each_fits, group_for, none_left}
 
 same_test : (a b c d : ℕ) → (a ≡ b → c ≡ d) → (c ≡ d → a ≡ b) → eqb a b ≡ eqb c d
 same_test a b c d f g = ⊎_elim (λ e. eq-eqb a b e ∙ sym (eq-eqb c d (f e))) (λ n. ne_eqb a b n ∙ sym (ne_eqb c d (λ e. n (g e)))) (cases_eq a b)

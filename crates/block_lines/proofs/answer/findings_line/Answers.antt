@@ -1,5 +1,4 @@
-use Rattle.std.proofs.Common.{◌≡◌, ℕ, List, ◌++◌, Some, codes, sym, ap, subst}
-use Rattle.fault.specs.Line.{fault_line}
+use Rattle.std.proofs.Common.{ℕ, List, ◌++◌, Some, codes, sym, subst}
 use Rattle.findings.specs.Tables.{room_of}
 use Rattle.tree.specs.Verdict.{Verdict}
 use Rattle.block_lines.specs.Analyses.{cjs_of, es_of}

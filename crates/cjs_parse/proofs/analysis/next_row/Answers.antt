@@ -1,4 +1,4 @@
-use Rattle.std.proofs.Common.{arith, rules}
+use Rattle.std.proofs.Common.{rules}
 use Rattle.tree.proofs.Sections.{length_rows}
 use Rattle.cjs_parse.proofs.analysis.next_row.Goals as goal
 

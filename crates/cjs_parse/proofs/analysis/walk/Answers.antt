@@ -1,4 +1,4 @@
-use Rattle.std.proofs.Common.{◌≡◌, ◌<◌, ◌≤◌, length, sym, subst, arith}
+use Rattle.std.proofs.Common.{◌<◌, ◌≤◌, length, sym, subst, arith}
 use Rattle.tree.specs.Subject.{tree_rows, tree_text}
 use Rattle.tree.proofs.Split.{nested_of}
 use Rattle.cjs_parse.proofs.Walking.{Going, after_rises, finished, gave_up, going_first, going_on}

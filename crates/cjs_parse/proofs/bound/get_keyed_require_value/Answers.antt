@@ -1,4 +1,4 @@
-use Rattle.std.proofs.Common.{◌≡◌, true, eqb, sym, refl, eq-eqb}
+use Rattle.std.proofs.Common.{◌≡◌, true, eqb, eq-eqb}
 use Rattle.kinds.specs.Kinds.{computed, ident}
 use Rattle.tree.specs.Forest.{row_at}
 use Rattle.tree.specs.Subject.{tree_rows}

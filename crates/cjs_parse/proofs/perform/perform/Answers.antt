@@ -1,4 +1,4 @@
-use Rattle.std.proofs.Common.{refl, ap}
+use Rattle.std.proofs.Common.{ap}
 use Rattle.cjs_law.specs.Events.{once}
 use Rattle.cjs_parse.proofs.Steps.{moved_none}
 use Rattle.cjs_parse.proofs.perform.perform.Goals as goal

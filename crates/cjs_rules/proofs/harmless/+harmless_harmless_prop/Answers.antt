@@ -1,4 +1,4 @@
-use Rattle.std.proofs.Common.{◌≡◌, true, eqb, sym, eq-eqb}
+use Rattle.std.proofs.Common.{◌≡◌, true, eqb, eq-eqb}
 use Rattle.tree.specs.Forest.{row_at}
 use Rattle.tree.specs.Subject.{tree_rows}
 use Rattle.cjs_rules.proofs.harmless.+harmless_harmless_prop.Goals as goal

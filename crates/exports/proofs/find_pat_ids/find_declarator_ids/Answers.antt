@@ -1,4 +1,4 @@
-use Rattle.std.proofs.Common.{◌≡◌, sym, refl}
+use Rattle.std.proofs.Common.{refl}
 use Rattle.tree.specs.Forest.{children}
 use Rattle.tree.specs.Subject.{tree_rows}
 use Rattle.exports.specs.BoundNames.{of_declarators, of_first}

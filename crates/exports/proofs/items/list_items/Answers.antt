@@ -1,4 +1,4 @@
-use Rattle.std.proofs.Common.{◌≡◌, true, false, is_err, sym, rules}
+use Rattle.std.proofs.Common.{◌≡◌, true, false, is_err, rules}
 use Rattle.tree.specs.Subject.{tree_module, tree_rows}
 use Rattle.exports.proofs.Progress.{at_next, exports_ready, lenders_kept, no_room, reexports_ready, same_lenders}
 use Rattle.exports.proofs.items.list_items.Goals as goal

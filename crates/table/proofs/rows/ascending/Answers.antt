@@ -1,7 +1,7 @@
-use Rattle.std.proofs.Common.{◌≡◌, ℕ, map, length, Less, Equal, Greater, sym, refl, ap, ◌∙◌, subst, true≢false, arith}
+use Rattle.std.proofs.Common.{◌≡◌, map, length, Equal, Greater, sym, refl, ap, true≢false, arith}
 use Rattle.std.specs.Ordering.{is_lt}
 use Rattle.std.proofs.lemmas.List.{length-map}
-use Rattle.table.proofs.Checks.{Steps, up_from_steps, steps_more, not_up}
+use Rattle.table.proofs.Checks.{up_from_steps, steps_more, not_up}
 use Rattle.table.proofs.rows.ascending.Goals as goal
 
 pub loop-i-preserved : goal.loop-i-preserved

@@ -1,4 +1,4 @@
-use Rattle.std.proofs.Common.{◌≡◌, ℕ, ◌+◌, ◌<◌, List, map, length, get_or, Less}
+use Rattle.std.proofs.Common.{◌≡◌, ℕ, ◌+◌, ◌<◌, List, map, get_or, Less}
 use Rattle.table.proofs.rows.ascending.Given as goal
 
 abbrev pub invariant-loop-i : goal.invariant-loop-i

@@ -1,4 +1,4 @@
-use Rattle.std.proofs.Common.{◌≡◌, ℕ, ◌+◌, ◌-◌, ◌/◌, ◌<◌, ◌≤◌, List, map, length, Less, Equal, Greater, sym, arith, rules}
+use Rattle.std.proofs.Common.{◌≡◌, ◌+◌, ◌-◌, ◌/◌, ◌<◌, map, length, Less, Equal, Greater, sym, arith}
 use Rattle.std.proofs.lemmas.List.{length-map}
 use Rattle.table.proofs.Places.{place_err, place_ok, past_greater, past_equal, at_key, length_keys}
 use Rattle.table.proofs.rows.find_in.Goals as goal

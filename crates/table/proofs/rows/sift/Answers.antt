@@ -1,4 +1,4 @@
-use Rattle.std.proofs.Common.{◌≡◌, is_err, sym, ap, ◌∙◌, arith}
+use Rattle.std.proofs.Common.{is_err, sym, ap, ◌∙◌, arith}
 use Rattle.table.proofs.Removes.{kept_yes, kept_no}
 use Rattle.table.proofs.rows.sift.Goals as goal
 use Rattle.table.proofs.rows.sift.Goals.{then-is_err, else-is_err}

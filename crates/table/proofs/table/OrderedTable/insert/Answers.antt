@@ -1,5 +1,4 @@
-use Rattle.std.proofs.Common.{Ok, Err, refl}
-use Rattle.table.specs.Table.{insert_row}
+use Rattle.std.proofs.Common.{Ok, refl}
 use Rattle.table.proofs.Inserts.{stays}
 use Rattle.table.proofs.Tables.{holds_inserted, insert_shape, inserted_is, within}
 use Rattle.table.proofs.table.OrderedTable.insert.Goals as goal

@@ -1,6 +1,5 @@
-use Rattle.std.proofs.Common.{false, Ok, Err, refl}
+use Rattle.std.proofs.Common.{false, Ok, refl}
 use Rattle.table.specs.declared.table.Full.{Full}
-use Rattle.table.specs.Table.{put_row}
 use Rattle.table.proofs.Inserts.{replaces}
 use Rattle.table.proofs.Tables.{below, holds_put, put_is, put_shape, within}
 use Rattle.table.proofs.table.OrderedTable.put.Goals as goal
