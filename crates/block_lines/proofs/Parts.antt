@@ -10,9 +10,9 @@ use Rattle.findings.specs.declared.tables.FindingsTables.{FindingsTables}
 use Rattle.lines.specs.Places.{lists_text}
 use Rattle.lines.specs.declared.places.Lists.{Lists}
 use Rattle.block_lines.specs.Lines.{ListsOf, NamesOf, PartOf, both_text, digit, first_refusal, names_of, names_text, outcome_text, part_text}
-use Rattle.block_lines.specs.declared.lines.Names.{Names}
-use Rattle.block_lines.specs.declared.lines.Part.{Part}
-use Rattle.block_lines.specs.declared.lines.Part.TheVariants as part
+use Rattle.block_lines.specs.declared.line.Names.{Names}
+use Rattle.block_lines.specs.declared.line.Part.{Part}
+use Rattle.block_lines.specs.declared.line.Part.TheVariants as part
 
 pub left_take : {X : Type 0} (z : X) (cap : ℕ) (ys : List X) (n : ℕ) (rows : List X) → Left z cap ys n rows → take n rows ≡ ys
 left_take z cap ys n rows l =

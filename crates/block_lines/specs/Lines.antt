@@ -14,13 +14,13 @@ use Rattle.text.specs.declared.place.Place.{Place}
 use Rattle.tree.specs.Block.{rows, text}
 use Rattle.tree.specs.Verdict.{Lawful, Verdict}
 use Rattle.block_lines.specs.Analyses.{cjs_of, es_of}
-use Rattle.block_lines.specs.declared.lines.AnswersLine.{AnswersLine}
-use Rattle.block_lines.specs.declared.lines.AnswersLine.TheVariants as answers
-use Rattle.block_lines.specs.declared.lines.FindingsLine.{FindingsLine}
-use Rattle.block_lines.specs.declared.lines.FindingsLine.TheVariants as findings
-use Rattle.block_lines.specs.declared.lines.Names.{Names}
-use Rattle.block_lines.specs.declared.lines.Part.{Part}
-use Rattle.block_lines.specs.declared.lines.Part.TheVariants as part
+use Rattle.block_lines.specs.declared.line.AnswersLine.{AnswersLine}
+use Rattle.block_lines.specs.declared.line.AnswersLine.TheVariants as answers
+use Rattle.block_lines.specs.declared.line.FindingsLine.{FindingsLine}
+use Rattle.block_lines.specs.declared.line.FindingsLine.TheVariants as findings
+use Rattle.block_lines.specs.declared.line.Names.{Names}
+use Rattle.block_lines.specs.declared.line.Part.{Part}
+use Rattle.block_lines.specs.declared.line.Part.TheVariants as part
 
 -- 1 for a script, else 0
 abbrev pub digit : Bool → List ℕ

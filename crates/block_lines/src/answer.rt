@@ -5,7 +5,7 @@ ghost use Rattle.findings.specs.Tables.{room_of};
 ghost use Rattle.tree.specs.Verdict.{Verdict};
 
 use crate::analyses::analyse;
-use crate::lines::{AnswersLine, FindingsLine, Names, Part};
+use crate::line::{AnswersLine, FindingsLine, Names, Part};
 use fault::Fault;
 use findings::{FindingsFault, FindingsTables};
 use lines::Lists;

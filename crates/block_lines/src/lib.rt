@@ -3,8 +3,8 @@
 
 mod analyses;
 mod answer;
-mod lines;
+mod line;
 
 pub use analyses::{Analyses, analyse};
 pub use answer::refusal_of_too_long;
-pub use lines::{AnswersLine, FindingsLine, Names, Part};
+pub use line::{AnswersLine, FindingsLine, Names, Part};
