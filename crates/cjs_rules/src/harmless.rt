@@ -13,7 +13,7 @@ fn is_simple(row: Row) -> bool
 }
 
 /// Whether the expression at row j has no side effect.
-#[cycle(harmless_harmless_prop)]
+#[cycle(harmless_values)]
 pub fn harmless(tree: &Tree, j: usize) -> bool
     ensures { result ≡ harmless-expr (at tree.now j).kids (at tree.now j).row }
 {
@@ -30,7 +30,7 @@ pub fn harmless(tree: &Tree, j: usize) -> bool
     harmless(tree, object) && harmless_prop(tree, property)
 }
 
-#[cycle(harmless_harmless_prop)]
+#[cycle(harmless_values)]
 fn harmless_prop(tree: &Tree, p: usize) -> bool
     ensures { result ≡ harmless_prop (at tree.now p).kids (at tree.now p).row }
 {

@@ -56,7 +56,7 @@ fn property_pattern(tree: &Tree, property: usize) -> Option<usize>
 }
 
 /// Appends the names that a pattern binds.
-#[cycle(find_element_ids_find_ids_if_any_find_pat_ids_find_property_ids)]
+#[cycle(patterns)]
 fn find_pat_ids(tree: &Tree, p: usize, names: &mut OrderedTable<Place>) -> Result<(), Full>
     requires { Ready names.old }
     ensures { Appended (bound_names (at tree.now p)) names.old result names.new }
@@ -70,7 +70,7 @@ fn find_pat_ids(tree: &Tree, p: usize, names: &mut OrderedTable<Place>) -> Resul
 }
 
 /// Appends the names that a pattern binds, if there is one.
-#[cycle(find_element_ids_find_ids_if_any_find_pat_ids_find_property_ids)]
+#[cycle(patterns)]
 fn find_ids_if_any(
     tree: &Tree,
     pattern: Option<usize>,
@@ -86,7 +86,7 @@ fn find_ids_if_any(
 }
 
 /// Appends the names that the elements of an array pattern bind.
-#[cycle(find_element_ids_find_ids_if_any_find_pat_ids_find_property_ids)]
+#[cycle(patterns)]
 fn find_element_ids(tree: &Tree, j: usize, names: &mut OrderedTable<Place>) -> Result<(), Full>
     requires { Ready names.old }
     ensures { Appended (of_elements (at tree.now j).kids) names.old result names.new }
@@ -100,7 +100,7 @@ fn find_element_ids(tree: &Tree, j: usize, names: &mut OrderedTable<Place>) -> R
 }
 
 /// Appends the names that the properties of an object pattern bind.
-#[cycle(find_element_ids_find_ids_if_any_find_pat_ids_find_property_ids)]
+#[cycle(patterns)]
 fn find_property_ids(tree: &Tree, j: usize, names: &mut OrderedTable<Place>) -> Result<(), Full>
     requires { Ready names.old }
     ensures { Appended (of_properties (at tree.now j).kids) names.old result names.new }

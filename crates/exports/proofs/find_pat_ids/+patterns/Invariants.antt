@@ -4,7 +4,7 @@ use Rattle.tree.specs.Subject.{tree_rows}
 use Rattle.tree.proofs.Rising.{left}
 use Rattle.exports.specs.BoundNames.{of_elements, of_properties}
 use Rattle.exports.proofs.Onward.{Onward, ahead}
-use Rattle.exports.proofs.find_pat_ids.+find_element_ids_find_ids_if_any_find_pat_ids_find_property_ids.Given as goal
+use Rattle.exports.proofs.find_pat_ids.+patterns.Given as goal
 
 abbrev pub decreases-find_pat_ids : goal.decreases-find_pat_ids
 decreases-find_pat_ids l = 3 * (length (tree_rows l.tree.now) - l.p) + 2

@@ -5,7 +5,7 @@ use Rattle.cjs_rules.specs.Nodes.{at}
 use Rattle.exports.specs.BoundNames.{bound_names, of_elements, of_properties, property_names}
 use Rattle.exports.proofs.Appending.{nothing_appended}
 use Rattle.exports.proofs.Onward.{done, stop, turn}
-use Rattle.exports.proofs.find_pat_ids.+find_element_ids_find_ids_if_any_find_pat_ids_find_property_ids.Goals as goal
+use Rattle.exports.proofs.find_pat_ids.+patterns.Goals as goal
 
 pub find_ids_if_any-returns-in-None : goal.find_ids_if_any-returns-in-None
 find_ids_if_any-returns-in-None t c = rw c.in-None.is (nothing_appended c.args.names.now c.requires)

@@ -1,6 +1,6 @@
 use Rattle.std.proofs.Common.{◌-◌, length}
 use Rattle.tree.specs.Subject.{tree_rows}
-use Rattle.cjs_rules.proofs.harmless.+harmless_harmless_prop.Given as goal
+use Rattle.cjs_rules.proofs.harmless.+harmless_values.Given as goal
 
 abbrev pub decreases-harmless : goal.decreases-harmless
 decreases-harmless l = length (tree_rows l.tree.now) - l.j

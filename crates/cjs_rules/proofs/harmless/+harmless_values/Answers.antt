@@ -1,7 +1,7 @@
 use Rattle.std.proofs.Common.{◌≡◌, true, eqb, eq-eqb}
 use Rattle.tree.specs.Forest.{row_at}
 use Rattle.tree.specs.Subject.{tree_rows}
-use Rattle.cjs_rules.proofs.harmless.+harmless_harmless_prop.Goals as goal
+use Rattle.cjs_rules.proofs.harmless.+harmless_values.Goals as goal
 
 pub harmless-returns-then-harmless : goal.harmless-returns-then-harmless
 harmless-returns-then-harmless t c =
