@@ -2,7 +2,7 @@
 use Rattle.std.specs.Prelude.{◌≡◌, ℕ, ◌+◌, cond, List, [], ◌∷◌, take, Some, None, Ok, Err, Option, Result}
 use Rattle.std.specs.Str.{bytes_eq}
 use Rattle.table.specs.Kind.{Holds}
-use Rattle.table.specs.Kinds.{bindings as byName, places as byText}
+use Rattle.table.specs.Kinds.{bindings as by_name, places as by_text}
 use Rattle.table.specs.Table.{put_row}
 use Rattle.table.specs.declared.binding.Binding.{Binding}
 use Rattle.table.specs.declared.table.Full.{Full}
@@ -30,10 +30,10 @@ state t =
 
 -- each table is in order, and its rest is zero
 pub record Sound (T : List ℕ) (t : FindingsTables) : Type 0 where
-  pub bindings : Holds byName T t.bindings.len t.bindings.rows.now
-  pub exports : Holds byText T t.exports.len t.exports.rows.now
-  pub reexports : Holds byText T t.reexports.len t.reexports.rows.now
-  pub unsafes : Holds byText T t.unsafes.len t.unsafes.rows.now
+  pub bindings : Holds by_name T t.bindings.len t.bindings.rows.now
+  pub exports : Holds by_text T t.exports.len t.exports.rows.now
+  pub reexports : Holds by_text T t.reexports.len t.reexports.rows.now
+  pub unsafes : Holds by_text T t.unsafes.len t.unsafes.rows.now
 
 -- the specifier that a name is bound to in a table of bindings
 abbrev pub look : List ℕ → List Binding → List ℕ → Option Place

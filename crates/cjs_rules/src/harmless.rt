@@ -1,7 +1,7 @@
 //! Harmless expressions: those without a side effect.
 ghost use Rattle.std.specs.Prelude.{◌≡◌};
 ghost use Rattle.cjs_rules.specs.Nodes.{at};
-ghost use Rattle.cjs_rules.specs.Rules.{harmless as harmless-expr, harmless_prop, is_simple};
+ghost use Rattle.cjs_rules.specs.Rules.{harmless as harmless_expr, harmless_prop, is_simple};
 
 use kinds::kind::*;
 use tree::{Row, Tree};
@@ -15,7 +15,7 @@ fn is_simple(row: Row) -> bool
 /// Whether the expression at row j has no side effect.
 #[cycle(harmless_values)]
 pub fn harmless(tree: &Tree, j: usize) -> bool
-    ensures { result ≡ harmless-expr (at tree.now j).kids (at tree.now j).row }
+    ensures { result ≡ harmless_expr (at tree.now j).kids (at tree.now j).row }
 {
     let r = tree.row(j);
     if r.kind != MEMBER {

@@ -1,4 +1,4 @@
--- Code points: the bytes that encode one, what bytes begin with, and well-formed WTF-8. UTF-8 is std's `Utf8`.
+-- Code points: the bytes that encode one, what bytes begin with, and well-formed WTF-8. UTF-8 is std's `IsUtf8`.
 use Rattle.std.specs.Prelude.{◌≡◌, ℕ, ◌+◌, ◌-◌, ◌*◌, ◌<◌, ◌≤◌, Bool, true, false, not, ◌&&◌, List, [], ◌∷◌, ◌++◌, length, ◌≢◌, nat_le, nat_lt}
 use Rattle.std.proofs.Math.Utf8.{encode, encodes}
 use Rattle.text.specs.declared.points.First.{First}
@@ -39,14 +39,14 @@ abbrev pub points : List ℕ → Bool
 points [] = true
 points (c ∷ cs) = nat_lt c 1114112 && points cs
 
--- no high surrogate is directly followed by a low one, `afterHigh` saying whether a high one stands before the list
+-- no high surrogate is directly followed by a low one, `after_high` saying whether a high one stands before the list
 abbrev pub unpaired : Bool → List ℕ → Bool
-unpaired afterHigh [] = true
-unpaired afterHigh (c ∷ cs) = not (afterHigh && low c) && unpaired (high c) cs
+unpaired after_high [] = true
+unpaired after_high (c ∷ cs) = not (after_high && low c) && unpaired (high c) cs
 
 -- what may follow in well-formed WTF-8, after a high surrogate or not
 abbrev pub Wtf8After : Bool → List ℕ → Type 0
-Wtf8After afterHigh bs = (cs : List ℕ) × ((points cs ≡ true) × (unpaired afterHigh cs ≡ true) × (encodes cs ≡ bs))
+Wtf8After after_high bs = (cs : List ℕ) × ((points cs ≡ true) × (unpaired after_high cs ≡ true) × (encodes cs ≡ bs))
 
 -- well-formed WTF-8: the encoding of code points in which no high surrogate is directly followed by a low one
 abbrev pub Wtf8 : List ℕ → Type 0

@@ -1,6 +1,6 @@
 //! The header of a block: the places of its rows and of its text.
 ghost use Rattle.std.specs.Prelude.{◌≡◌, Decides};
-ghost use Rattle.tree.specs.Block.{LawfulLayout, rows_of, rows as blockRows, text as blockText};
+ghost use Rattle.tree.specs.Block.{LawfulLayout, rows_of, rows as block_rows, text as block_text};
 
 use crate::row::Rows;
 use text::{part, read_le32};
@@ -44,8 +44,8 @@ pub(crate) fn is_lawful_layout(block: &[u8]) -> bool
 /// The sections of a block with a lawful layout.
 pub(crate) fn sections_of(block: &[u8]) -> Sections<'_>
     requires { LawfulLayout block.now }
-    ensures rows { rows_of result.rows ≡ blockRows block.now }
-    ensures text { result.text.now ≡ blockText block.now }
+    ensures rows { rows_of result.rows ≡ block_rows block.now }
+    ensures text { result.text.now ≡ block_text block.now }
 {
     let rows_offset = read_le32(block, 0) as usize;
     let rows_length = read_le32(block, 4) as usize;
