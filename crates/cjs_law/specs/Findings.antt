@@ -1,6 +1,6 @@
 -- What the acts of a walk come to, with tables of a given room: in words, and computed.
 use Rattle.std.specs.Prelude.{◌≡◌, ℕ, ◌≤◌, Bool, cond, ◌&&◌, List, [], ◌∷◌, ◌++◌, map, length, Ok, Err, Result, nat_le}
-use Rattle.table.specs.Kinds.{bindings as by_name, places as by_text}
+use Rattle.table.specs.Kinds.{bindings as binding_kind, places as place_kind}
 use Rattle.table.specs.Table.{without}
 use Rattle.table.specs.declared.binding.Binding.{Binding}
 use Rattle.text.specs.Reading.{order}
@@ -13,10 +13,10 @@ use Rattle.cjs_law.specs.Walk.{Act}
 
 -- the keys of rows: the loose reading of a place's text, and the name of a binding
 abbrev pub loosely : List ℕ → Place → List ℕ
-loosely T p = by_text.key T p
+loosely T p = place_kind.key T p
 
 abbrev pub by_name : List ℕ → Binding → List ℕ
-by_name T b = by_name.key T b
+by_name T b = binding_kind.key T b
 
 -- what the acts export, in order
 abbrev pub exported_by : Event → List Place → List Place

@@ -2,7 +2,7 @@
 use Rattle.std.proofs.Common.{◌≡◌, ℕ, ◌-◌, List, [], length, take, drop, replicate, Ok, Err, Result, sym, ap, ◌∙◌, subst, arith}
 use Rattle.std.proofs.lemmas.List.{length-replicate}
 use Rattle.table.specs.Kind.{Holds, Kind}
-use Rattle.table.specs.Kinds.{bindings as by_name, places as by_text}
+use Rattle.table.specs.Kinds.{bindings as binding_kind, places as place_kind}
 use Rattle.table.specs.Table.{Left, Rest}
 use Rattle.findings.specs.Tables.{Analysed, Found, Hold, Room, answered, kept, nothing, room_of}
 use Rattle.findings.specs.declared.refusal.FindingsFault.TheVariants.{Full}
@@ -33,10 +33,10 @@ module _ (T : List ℕ) (room : Room) (t : FindingsTables) (h : Hold room nothin
   pub cleared_sound : Sound T t
   cleared_sound =
       record {
-        bindings = empty_holds by_name T room.bindings _ _ h.bindings;
-        exports = empty_holds by_text T room.exports _ _ h.exports;
-        reexports = empty_holds by_text T room.reexports _ _ h.reexports;
-        unsafes = empty_holds by_text T room.unsafes _ _ h.unsafes;
+        bindings = empty_holds binding_kind T room.bindings _ _ h.bindings;
+        exports = empty_holds place_kind T room.exports _ _ h.exports;
+        reexports = empty_holds place_kind T room.reexports _ _ h.reexports;
+        unsafes = empty_holds place_kind T room.unsafes _ _ h.unsafes;
       }
 
 pub cleared_state : (room : Room) (t : FindingsTables) → Hold room nothing t → state t ≡ nothing
