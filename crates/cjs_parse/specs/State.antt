@@ -12,7 +12,7 @@ use Rattle.findings.specs.Tables.{Found, Room, SameLenders, room_of}
 use Rattle.findings.specs.declared.tables.FindingsTables.{FindingsTables}
 use Rattle.cjs_law.specs.declared.event.Event.{Event}
 use Rattle.cjs_law.specs.declared.event.Event.TheVariants.{Bind, Export, Reexport, Replace, Unsafe}
-use Rattle.cjs_law.specs.Findings.{binding_kind, fits, loosely, outcome, safe}
+use Rattle.cjs_law.specs.Findings.{by_name, fits, loosely, outcome, safe}
 use Rattle.cjs_law.specs.Lists.{insert}
 use Rattle.cjs_law.specs.Walk.{acts_of, skips}
 use Rattle.tree.specs.Forest.{end_at, row_at}
@@ -38,11 +38,11 @@ pub record Sound (T : List ℕ) (t : FindingsTables) : Type 0 where
 -- the specifier that a name is bound to in a table of bindings
 abbrev pub look : List ℕ → List Binding → List ℕ → Option Place
 look T [] name = None
-look T (b ∷ bs) name = cond (bytes_eq (binding_kind T b) name) (Some b.value) (look T bs name)
+look T (b ∷ bs) name = cond (bytes_eq (by_name T b) name) (Some b.value) (look T bs name)
 
 -- one event, where there is room
 abbrev pub apply : List ℕ → Event → Found → Found
-apply T (Bind k v) f = record { bindings = put_row order (binding_kind T) (record { name = k; value = v }) f.bindings; exports = f.exports; reexports = f.reexports; unsafes = f.unsafes }
+apply T (Bind k v) f = record { bindings = put_row order (by_name T) (record { name = k; value = v }) f.bindings; exports = f.exports; reexports = f.reexports; unsafes = f.unsafes }
 apply T (Export p) f = record { bindings = f.bindings; exports = insert (loosely T) p f.exports; reexports = f.reexports; unsafes = f.unsafes }
 apply T (Unsafe p) f = record { bindings = f.bindings; exports = f.exports; reexports = f.reexports; unsafes = insert (loosely T) p f.unsafes }
 apply T (Reexport p) f = record { bindings = f.bindings; exports = f.exports; reexports = insert (loosely T) p f.reexports; unsafes = f.unsafes }
