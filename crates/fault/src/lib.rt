@@ -15,7 +15,7 @@ pub enum Layer {
     Survey = 4,
 }
 
-/// A refusal by its number, its layer, the module it concerns (0 if none) and its place (0 unless the refusal gives one).
+/// A refusal as its line has it: by its number, its layer, the module it concerns (0 if none) and its place (0 unless the refusal gives one).
 #[derive(Clone, Copy, PartialEq, Eq, Debug)]
 pub struct Fault {
     pub number: u8,

@@ -1,100 +1,135 @@
 //! The kinds of rows. docs/TREE.md has their table.
-pub const OTHER: u32 = 0;
+ghost use Rattle.std.specs.Prelude.{◌≡◌};
+ghost use Rattle.kinds.specs.Number.{Decodes, number};
+ghost use Rattle.kinds.specs.Table.{ColumnsAreTheTable};
 
-pub const PROGRAM: u32 = 1;
+/// What a row of a tree is. Its number is the one that a tree block has for it.
+#[derive(Clone, Copy, PartialEq, Eq, PartialOrd, Ord, Debug)]
+pub enum Kind {
+    Other = 0,
+    Program = 1,
+    Ident = 2,
+    Str = 3,
+    Num = 4,
+    OtherLit = 5,
+    Call = 6,
+    Spread = 7,
+    Member = 8,
+    PrivateName = 9,
+    Computed = 10,
+    Paren = 11,
+    Seq = 12,
+    Assign = 13,
+    Object = 14,
+    KeyValue = 15,
+    Shorthand = 16,
+    Getter = 17,
+    Setter = 18,
+    Method = 19,
+    Function = 20,
+    FnExpr = 21,
+    Arrow = 22,
+    Block = 23,
+    Return = 24,
+    VarDecl = 25,
+    UsingDecl = 26,
+    Declarator = 27,
+    ArrayPat = 28,
+    ObjectPat = 29,
+    KeyValuePat = 30,
+    AssignPatProp = 31,
+    RestPat = 32,
+    AssignPat = 33,
+    Import = 34,
+    ExportAll = 35,
+    ExportDecl = 36,
+    ExportNamed = 37,
+    NamespaceSpec = 38,
+    DefaultSpec = 39,
+    NamedSpec = 40,
+    ExportDefault = 41,
+    TsImportEquals = 42,
+    TsExportAssignment = 43,
+    TsNamespaceExport = 44,
+    ClassDecl = 45,
+    FnDecl = 46,
+    TsEnum = 47,
+    TsModule = 48,
+    TypeDecl = 49,
+}
 
-pub const IDENT: u32 = 2;
+/// A number that no kind has.
+#[derive(Clone, Copy, PartialEq, Eq, Debug)]
+pub struct UnknownKind(pub u32);
 
-pub const STR: u32 = 3;
+impl TryFrom<u32> for Kind {
+    type Error = UnknownKind;
 
-pub const NUM: u32 = 4;
+    ghost try_from_gives = { Decodes };
 
-pub const OTHER_LIT: u32 = 5;
+    fn try_from(number: u32) -> Result<Self, UnknownKind> {
+        match number {
+            0 => Ok(Kind::Other),
+            1 => Ok(Kind::Program),
+            2 => Ok(Kind::Ident),
+            3 => Ok(Kind::Str),
+            4 => Ok(Kind::Num),
+            5 => Ok(Kind::OtherLit),
+            6 => Ok(Kind::Call),
+            7 => Ok(Kind::Spread),
+            8 => Ok(Kind::Member),
+            9 => Ok(Kind::PrivateName),
+            10 => Ok(Kind::Computed),
+            11 => Ok(Kind::Paren),
+            12 => Ok(Kind::Seq),
+            13 => Ok(Kind::Assign),
+            14 => Ok(Kind::Object),
+            15 => Ok(Kind::KeyValue),
+            16 => Ok(Kind::Shorthand),
+            17 => Ok(Kind::Getter),
+            18 => Ok(Kind::Setter),
+            19 => Ok(Kind::Method),
+            20 => Ok(Kind::Function),
+            21 => Ok(Kind::FnExpr),
+            22 => Ok(Kind::Arrow),
+            23 => Ok(Kind::Block),
+            24 => Ok(Kind::Return),
+            25 => Ok(Kind::VarDecl),
+            26 => Ok(Kind::UsingDecl),
+            27 => Ok(Kind::Declarator),
+            28 => Ok(Kind::ArrayPat),
+            29 => Ok(Kind::ObjectPat),
+            30 => Ok(Kind::KeyValuePat),
+            31 => Ok(Kind::AssignPatProp),
+            32 => Ok(Kind::RestPat),
+            33 => Ok(Kind::AssignPat),
+            34 => Ok(Kind::Import),
+            35 => Ok(Kind::ExportAll),
+            36 => Ok(Kind::ExportDecl),
+            37 => Ok(Kind::ExportNamed),
+            38 => Ok(Kind::NamespaceSpec),
+            39 => Ok(Kind::DefaultSpec),
+            40 => Ok(Kind::NamedSpec),
+            41 => Ok(Kind::ExportDefault),
+            42 => Ok(Kind::TsImportEquals),
+            43 => Ok(Kind::TsExportAssignment),
+            44 => Ok(Kind::TsNamespaceExport),
+            45 => Ok(Kind::ClassDecl),
+            46 => Ok(Kind::FnDecl),
+            47 => Ok(Kind::TsEnum),
+            48 => Ok(Kind::TsModule),
+            49 => Ok(Kind::TypeDecl),
+            _ => Err(UnknownKind(number)),
+        }
+    }
+}
 
-pub const CALL: u32 = 6;
-
-pub const SPREAD: u32 = 7;
-
-pub const MEMBER: u32 = 8;
-
-pub const PRIVATE_NAME: u32 = 9;
-
-pub const COMPUTED: u32 = 10;
-
-pub const PAREN: u32 = 11;
-
-pub const SEQ: u32 = 12;
-
-pub const ASSIGN: u32 = 13;
-
-pub const OBJECT: u32 = 14;
-
-pub const KEY_VALUE: u32 = 15;
-
-pub const SHORTHAND: u32 = 16;
-
-pub const GETTER: u32 = 17;
-
-pub const SETTER: u32 = 18;
-
-pub const METHOD: u32 = 19;
-
-pub const FUNCTION: u32 = 20;
-
-pub const FN_EXPR: u32 = 21;
-
-pub const ARROW: u32 = 22;
-
-pub const BLOCK: u32 = 23;
-
-pub const RETURN: u32 = 24;
-
-pub const VAR_DECL: u32 = 25;
-
-pub const USING_DECL: u32 = 26;
-
-pub const DECLARATOR: u32 = 27;
-
-pub const ARRAY_PAT: u32 = 28;
-
-pub const OBJECT_PAT: u32 = 29;
-
-pub const KEY_VALUE_PAT: u32 = 30;
-
-pub const ASSIGN_PAT_PROP: u32 = 31;
-
-pub const REST_PAT: u32 = 32;
-
-pub const ASSIGN_PAT: u32 = 33;
-
-pub const IMPORT: u32 = 34;
-
-pub const EXPORT_ALL: u32 = 35;
-
-pub const EXPORT_DECL: u32 = 36;
-
-pub const EXPORT_NAMED: u32 = 37;
-
-pub const NAMESPACE_SPEC: u32 = 38;
-
-pub const DEFAULT_SPEC: u32 = 39;
-
-pub const NAMED_SPEC: u32 = 40;
-
-pub const EXPORT_DEFAULT: u32 = 41;
-
-pub const TS_IMPORT_EQUALS: u32 = 42;
-
-pub const TS_EXPORT_ASSIGNMENT: u32 = 43;
-
-pub const TS_NAMESPACE_EXPORT: u32 = 44;
-
-pub const CLASS_DECL: u32 = 45;
-
-pub const FN_DECL: u32 = 46;
-
-pub const TS_ENUM: u32 = 47;
-
-pub const TS_MODULE: u32 = 48;
-
-pub const TYPE_DECL: u32 = 49;
+impl Kind {
+    /// The number of the kind in a tree block. The table of the kinds has a line for each.
+    pub fn number(self) -> u32
+        ensures is { result ≡ number self }
+        ensures table { ColumnsAreTheTable }
+    {
+        self as u32
+    }
+}
