@@ -1,5 +1,5 @@
 -- The readings by code points.
-use Rattle.std.proofs.Common.{◌≡◌, ℕ, suc, ◌<◌, Bool, true, false, cond, ◌||◌, eqb, List, [], ◌∷◌, ◌++◌, map, length, is_some, Some, None, IsUtf8, Decides, sym, refl, ap, ◌∙◌, inl, inr, ⊎_elim, arith}
+use Rattle.std.proofs.Common.{◌≡◌, ℕ, suc, ◌<◌, Bool, true, false, cond, ◌||◌, List, [], ◌∷◌, ◌++◌, map, length, is_some, Some, None, IsUtf8, Decides, sym, refl, ap, ◌∙◌, inl, inr, ⊎_elim, arith}
 use lib.Utf8.{encode, encodes, scalar, scalars, scalar_cases}
 use Rattle.std.proofs.lemmas.Bool.{cond-true, cond-false, and_parts, and_from, or_parts, or_from, ltb-true}
 use Rattle.std.proofs.lemmas.Bool.Decides.{nat_tests}
@@ -21,17 +21,13 @@ either : (n : ℕ) (t : Bool) (xs ys : List ℕ) → length xs ≡ n → length 
 either n true xs ys p q = p
 either n false xs ys p q = q
 
-length_after : (owed : ℕ) (bs : List ℕ) → length (loose_after owed bs) ≡ length bs
-length_after owed [] = refl
-length_after owed (b ∷ bs) =
-    let n = suc (length bs) in
-    let own = ap suc (length_after 0 bs) in
-    let last : List ℕ = cond (begins b bs) (239 ∷ loose_after 2 bs) (b ∷ loose_after 0 bs) in
-    either n (eqb owed 2) (191 ∷ loose_after 1 bs) (cond (eqb owed 1) (189 ∷ loose_after 0 bs) last) (ap suc (length_after 1 bs))
-    (either n (eqb owed 1) (189 ∷ loose_after 0 bs) last own (either n (begins b bs) (239 ∷ loose_after 2 bs) (b ∷ loose_after 0 bs) (ap suc (length_after 2 bs)) own))
+length_after : (pending bs : List ℕ) → length (loose_after pending bs) ≡ length bs
+length_after pending [] = refl
+length_after (p ∷ pending) (b ∷ bs) = ap suc (length_after pending bs)
+length_after [] (b ∷ bs) = either (suc (length bs)) (begins b bs) (239 ∷ loose_after (191 ∷ 189 ∷ []) bs) (b ∷ loose_after [] bs) (ap suc (length_after (191 ∷ 189 ∷ []) bs)) (ap suc (length_after [] bs))
 
 pub length_loose : (bs : List ℕ) → length (loose bs) ≡ length bs
-length_loose = length_after 0
+length_loose = length_after []
 
 -- code points are scalar values where no surrogate is among them
 scalar_from : (c : ℕ) → c < 1114112 → surrogate c ≡ false → scalar c ≡ true

@@ -1,42 +1,41 @@
--- One byte of the loose reading, and one byte of the search for a surrogate.
-use Rattle.std.proofs.Common.{◌≡◌, ℕ, ◌<◌, true, false, ◌||◌, List, ◌∷◌, length, get_or, sym, ap, ◌∙◌, arith}
-use Rattle.std.specs.List.{between}
-use Rattle.std.proofs.lemmas.Slice.{first_rest}
-use Rattle.std.proofs.lemmas.Bool.{cond-true, cond-false, eq-eqb, ne_eqb, or_left}
-use Rattle.text.specs.Reading.{loose_after, begins, marked}
+-- The search for a surrogate over the windows of two bytes.
+use Rattle.std.proofs.Common.{◌≡◌, ℕ, Bool, false, ◌||◌, List, [], ◌∷◌, length, drop, take, sym, refl, ap, ◌∙◌, arith}
+use Rattle.std.specs.Prelude.{◌==◌}
+use Rattle.std.proofs.lemmas.Bool.{and_right}
+use denote.Param.Members.{Mut}
+use denote.Ref.{Bor}
+use Rattle.std.specs.Fn.{Called}
+use Rattle.std.specs.Iterator.{AlwaysYields, ChecksAny}
+use Rattle.std.specs.List.{list_any}
+use Rattle.std.specs.Slice.Iter.{windows_rest, windows_size, windows_steps}
+use Rattle.std.specs.declared.slice.Windows.{Windows}
+use Rattle.std.proofs.lemmas.Iterator.{YieldsList}
+use Rattle.std.proofs.lemmas.Iterator.Search.{any_from_yields_List}
+use Rattle.text.specs.Reading.{begins, begun, marked}
 
-module _ (owed : ℕ) (xs : List ℕ) (some : 0 < length xs) (p : ℕ × ℕ) where
-  abbrev b : ℕ
-  b = get_or xs 0 0
+-- the windows of two bytes
+abbrev pairs : List ℕ → List (List ℕ)
+pairs [] = []
+pairs (a ∷ []) = []
+pairs (a ∷ b ∷ bs) = (a ∷ b ∷ []) ∷ pairs (b ∷ bs)
 
-  abbrev bs : List ℕ
-  bs = between 1 (length xs) xs
+yields_pairs : (s : Windows ℕ) (xs : List ℕ) → windows_rest s ≡ xs → windows_size s ≡ 2 → AlwaysYields windows_steps (λ w. w.now) s (pairs xs)
+yields_pairs s [] e two = λ w t h. omega (arith, ap length e, h.1.0)
+yields_pairs s (a ∷ []) e two = λ w t h. omega (arith, ap length e, h.1.0)
+yields_pairs s (a ∷ b ∷ bs) e two = (
+  (λ t h. omega (arith, ap length e, h.1.0)),
+  λ w t h. (h.1.1 ∙ (λ i. take (two i) (e i)), yields_pairs t (b ∷ bs) (h.1.2 ∙ ap (drop 1) e) (h.0 ∙ two)),
+)
 
-  -- the reading goes on with the byte p .0, and then p.1 bytes of a surrogate are owed
-  abbrev Reads : ℕ × ℕ → Type 0
-  Reads q = loose_after owed xs ≡ q.0 ∷ loose_after q.1 bs
+marked_by_pairs : (xs : List ℕ) → list_any begun (pairs xs) ≡ marked xs
+marked_by_pairs [] = refl
+marked_by_pairs (a ∷ []) = sym (ap (λ t. t || false) (and_right (a == 237) false refl))
+marked_by_pairs (a ∷ b ∷ bs) = ap (λ t. begins a (b ∷ bs) || t) (marked_by_pairs (b ∷ bs))
 
-  opened : loose_after owed xs ≡ loose_after owed (b ∷ bs)
-  opened = ap (loose_after owed) (first_rest xs 0 some)
-
-  moved : (q : ℕ × ℕ) → p ≡ q → Reads q → Reads p
-  moved q e h = h ∙ sym (ap (λ t. t.0 ∷ loose_after t.1 bs) e)
-
-  pub second_byte : p ≡ (191, 1) → owed ≡ 2 → Reads p
-  second_byte e two = moved _ e (opened ∙ cond-true _ _ _ (eq-eqb owed 2 two))
-
-  pub third_byte : p ≡ (189, 0) → owed ≡ 1 → Reads p
-  third_byte e one = moved _ e (opened ∙ cond-false _ _ _ (ne_eqb owed 2 (λ h. omega arith)) ∙ cond-true _ _ _ (eq-eqb owed 1 one))
-
-  pub first_byte : p ≡ (239, 2) → (owed ≡ 2 → ⊥) → (owed ≡ 1 → ⊥) → begins b bs ≡ true → Reads p
-  first_byte e two one h = moved _ e (opened ∙ cond-false _ _ _ (ne_eqb owed 2 two) ∙ cond-false _ _ _ (ne_eqb owed 1 one) ∙ cond-true _ _ _ h)
-
-  pub own_byte : p ≡ (b, 0) → (owed ≡ 2 → ⊥) → (owed ≡ 1 → ⊥) → begins b bs ≡ false → Reads p
-  own_byte e two one h = moved _ e (opened ∙ cond-false _ _ _ (ne_eqb owed 2 two) ∙ cond-false _ _ _ (ne_eqb owed 1 one) ∙ cond-false _ _ _ h)
-
-module _ (xs : List ℕ) (some : 0 < length xs) where
-  pub found : begins (get_or xs 0 0) (between 1 (length xs) xs) ≡ true → marked xs ≡ true
-  found e = ap marked (first_rest xs 0 some) ∙ or_left _ _ e
-
-  pub passed : begins (get_or xs 0 0) (between 1 (length xs) xs) ≡ false → marked xs ≡ marked (between 1 (length xs) xs)
-  passed e = ap marked (first_rest xs 0 some) ∙ ap (λ t. t || marked (between 1 (length xs) xs)) e
+-- a surrogate occurs where some window of two bytes begins with one
+pub marked_from_any : {F : Type 0} {g : Mut F (Bor (List ℕ) × Unit {0}) Bool} {s : Windows ℕ} (u : Windows ℕ) (f : F) (r : Bool) (xs : List ℕ)
+    → ChecksAny windows_steps g s f r u → windows_rest s ≡ xs → windows_size s ≡ 2
+    → ((w : Bor (List ℕ)) (b : Bool) (q : F) → Called g f (w, tt) b q → (q ≡ f) × (b ≡ begun w.now)) → r ≡ marked xs
+marked_from_any {s = s} u f r xs ran e two tells =
+    let yielded : YieldsList windows_steps (λ w. w.now) s (pairs xs) = record { runs = yields_pairs s xs e two } in
+    any_from_yields_List begun u f r ran yielded tells ∙ marked_by_pairs xs

@@ -1,9 +1,10 @@
--- One more code point of UTF-8 and of WTF-8: what is left is well-formed where the whole is, and the other way.
-use Rattle.std.proofs.Common.{◌≡◌, ℕ, ◌<◌, Bool, true, false, ◌&&◌, List, [], ◌∷◌, ◌++◌, length, IsUtf8, sym, ap, ◌∙◌, subst, ⊎_elim, arith, length-append}
-use lib.Utf8.{encode, encodes, scalar, scalars, scalar_cases}
-use Rattle.std.proofs.lemmas.Bool.{and_parts, and_from, lt-ltb, ltb-true, not-true, not_from_false}
+-- One more code point of WTF-8: what is left is well-formed where the whole is, and the other way.
+use Rattle.std.proofs.Common.{◌≡◌, ℕ, ◌<◌, Bool, true, false, ◌&&◌, List, [], ◌∷◌, ◌++◌, length, Some, Result, Ok, Err, Decides, sym, ap, ◌∙◌, subst, arith, length-append}
+use lib.Utf8.{encode, encodes}
+use Rattle.std.proofs.lemmas.Bool.{both_ways, false≢true, and_parts, and_from, lt-ltb, ltb-true, not-true, not_from_false}
 use Rattle.std.proofs.lemmas.Str.{cons_from_encodes, length-encode, len_utf8_bounds}
-use Rattle.text.specs.Points.{NoPoint, Wtf8After, points, unpaired, high, low}
+use Rattle.text.specs.Points.{NoPoint, Leads, Wtf8, Wtf8After, points, unpaired, high, low}
+use Rattle.text.specs.declared.points.Malformed.{Malformed}
 
 -- after a code point of WTF-8 comes WTF-8
 pub wtf8_rest : (h : Bool) (bs more : List ℕ) (n : ℕ) → bs ≡ encode n ++ more → Wtf8After h bs → ((h && low n) ≡ false) × Wtf8After (high n) more
@@ -28,20 +29,31 @@ wtf8_refused h bs l none w = by w.0 w.1.0 w.1.2
 pub shorter : (bs more : List ℕ) (n : ℕ) → bs ≡ encode n ++ more → length more < length bs
 shorter bs more n e = omega (arith, ap length e, length-append (encode n) more, length-encode n, (len_utf8_bounds n).0)
 
--- a scalar value before UTF-8
-pub utf8_more : (bs more : List ℕ) (n : ℕ) → scalar n ≡ true → bs ≡ encode n ++ more → IsUtf8 more → IsUtf8 bs
-utf8_more bs more n s e u = (n ∷ u.0, (and_from _ _ s u.1.0, ap (λ l. encode n ++ l) u.1.1 ∙ sym e))
+-- a step through code points leaves fewer bytes
+pub fewer : (before after : List ℕ) (r : Result ℕ Malformed) → Leads before (Some r) after → length after < length before
+fewer before after (Ok n) l = shorter before after n l.1
+fewer before after (Err e) l = l.1
 
--- UTF-8 begins with a scalar value
-pub utf8_first : (bs more : List ℕ) (n : ℕ) → bs ≡ encode n ++ more → IsUtf8 bs → scalar n ≡ true
-utf8_first bs more n e u =
-    let k = cons_from_encodes u.0 more n (u.1.1 ∙ e) in
-    (and_parts _ _ (subst (λ cs. scalars cs ≡ true) k.1 u.1.0)).0
+-- the bytes of which `rest` is left are WTF-8 where `rest` is, `h` saying whether a high surrogate stands before it
+abbrev pub Along : List ℕ → Bool → List ℕ → Type 0
+Along whole h rest = (Wtf8 whole → Wtf8After h rest) × (Wtf8After h rest → Wtf8 whole)
 
--- bytes that begin with no code point are no UTF-8
-pub utf8_refused : (bs : List ℕ) → 0 < length bs → NoPoint bs → IsUtf8 bs → ⊥
-utf8_refused bs l none u = by u.0 u.1.0 u.1.1
-  where
-    by : (cs : List ℕ) → scalars cs ≡ true → encodes cs ≡ bs → ⊥
-    by [] p e = omega (arith, ap length e)
-    by (c ∷ cs) p e = none c (encodes cs) (⊎_elim (λ h. omega arith) (λ h. omega arith) (scalar_cases c (and_parts _ _ p).0)) (sym e)
+module _ (whole bs more : List ℕ) (h : Bool) (r : Result ℕ Malformed) (so_far : Along whole h bs) (step : Leads bs (Some r) more) where
+  at_point : (n : ℕ) → r ≡ Ok n → Leads bs (Some (Ok n)) more
+  at_point n is = subst (λ q. Leads bs (Some q) more) is step
+
+  -- a code point that completes no pair
+  pub along : (n : ℕ) (k : Bool) → r ≡ Ok n → (h && low n) ≡ false → high n ≡ k → Along whole k more
+  along n k is free e =
+      let l = at_point n is in (
+        (λ w. subst (λ b. Wtf8After b more) e (wtf8_rest h bs more n l.1 (so_far.0 w)).1),
+        λ w. so_far.1 (wtf8_more h bs more n l.0 l.1 free (subst (λ b. Wtf8After b more) (sym e) w)),
+      )
+
+  -- one that does
+  pub paired : (n : ℕ) → r ≡ Ok n → (h && low n) ≡ true → Decides false (Wtf8 whole)
+  paired n is pair = ((λ f. absurd (false≢true f)), λ w. absurd (both_ways _ (wtf8_rest h bs more n (at_point n is).1 (so_far.0 w)).0 pair))
+
+  -- no code point
+  pub broken : (e : Malformed) → r ≡ Err e → Decides false (Wtf8 whole)
+  broken e is = let l = subst (λ q. Leads bs (Some q) more) is step in ((λ f. absurd (false≢true f)), λ w. absurd (wtf8_refused h bs (omega (arith, l.1)) l.0 (so_far.0 w)))

@@ -1,30 +1,22 @@
--- Code points: the bytes that encode one, what bytes begin with, and well-formed WTF-8. UTF-8 is std's `IsUtf8`.
-use Rattle.std.specs.Prelude.{◌≡◌, ℕ, ◌+◌, ◌-◌, ◌*◌, ◌<◌, ◌≤◌, Bool, true, false, not, ◌&&◌, List, [], ◌∷◌, ◌++◌, length, ◌≢◌, nat_le, nat_lt}
+-- Code points: reading them from bytes one after the other, and well-formed WTF-8. UTF-8 is std's `IsUtf8`.
+use Rattle.std.specs.Prelude.{◌≡◌, ℕ, ◌+◌, ◌-◌, ◌*◌, ◌<◌, ◌≤◌, Bool, true, false, not, ◌&&◌, List, [], ◌∷◌, ◌++◌, length, Option, Some, None, Result, Ok, Err, ◌≢◌, nat_le, nat_lt}
 use Rattle.std.proofs.Math.Utf8.{encode, encodes}
-use Rattle.text.specs.declared.points.First.{First}
-use Rattle.text.specs.declared.points.First.TheVariants.{Point, Bad, End}
-
--- two bytes that encode a code point: 80 to 7FF
-abbrev pub TwoBytes : ℕ → ℕ → Type 0
-TwoBytes a b = (194 ≤ a) × (a < 224) × (128 ≤ b) × (b < 192)
-
--- three bytes that encode a code point: 800 to FFFF
-abbrev pub ThreeBytes : ℕ → ℕ → ℕ → Type 0
-ThreeBytes a b c = (224 ≤ a) × (a < 240) × (128 ≤ b) × (b < 192) × (32 ≤ (a - 224) * 64 + (b - 128)) × (128 ≤ c) × (c < 192)
-
--- four bytes that encode a code point: 10000 to 10FFFF
-abbrev pub FourBytes : ℕ → ℕ → ℕ → ℕ → Type 0
-FourBytes a b c d = (240 ≤ a) × (a < 245) × (128 ≤ b) × (b < 192) × (16 ≤ (a - 240) * 64 + (b - 128)) × ((a - 240) * 64 + (b - 128) < 272) × (128 ≤ c) × (c < 192) × (128 ≤ d) × (d < 192)
+use Rattle.text.specs.declared.points.Malformed.{Malformed}
 
 -- no code point's encoding stands at the start of the bytes
 abbrev pub NoPoint : List ℕ → Type 0
 NoPoint bs = (n : ℕ) (rest : List ℕ) → n < 1114112 → bs ≢ encode n ++ rest
 
--- what the bytes begin with
-abbrev pub Leads : List ℕ → First → Type 0
-Leads bs (Point n rest) = (n < 1114112) × (bs ≡ encode n ++ rest.now)
-Leads bs Bad = (0 < length bs) × NoPoint bs
-Leads bs End = bs ≡ []
+-- one more byte, 80 to BF, puts six bits after `start`, or none stands there
+abbrev pub GoesOn : ℕ → List ℕ → Result ℕ Malformed → List ℕ → Type 0
+GoesOn start before (Ok n) after = (b : ℕ) × (128 ≤ b) × (b < 192) × (n ≡ start * 64 + (b - 128)) × (before ≡ b ∷ after)
+GoesOn start before (Err e) after = ((b : ℕ) (bs : List ℕ) → 128 ≤ b → b < 192 → before ≢ b ∷ bs) × (after ≡ before)
+
+-- one step through the code points of bytes: nothing is left, or the first one comes and `after` is left, or none begins
+abbrev pub Leads : List ℕ → Option (Result ℕ Malformed) → List ℕ → Type 0
+Leads before None after = (before ≡ []) × (after ≡ [])
+Leads before (Some (Ok n)) after = (n < 1114112) × (before ≡ encode n ++ after)
+Leads before (Some (Err e)) after = NoPoint before × (length after < length before)
 
 -- a high surrogate: D800 to DBFF
 abbrev pub high : ℕ → Bool

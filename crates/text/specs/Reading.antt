@@ -1,5 +1,5 @@
 -- The readings of text that may hold surrogates: the loose reading, its order and its writing, and the plain reading.
-use Rattle.std.specs.Prelude.{◌≡◌, ℕ, ◌+◌, Bool, false, cond, ◌&&◌, ◌||◌, List, [], ◌∷◌, ◌++◌, length, take, drop, Some, None, Option, ◌==◌, nat_le, slice_index}
+use Rattle.std.specs.Prelude.{ℕ, ◌+◌, Bool, false, cond, ◌&&◌, ◌||◌, List, [], ◌∷◌, ◌++◌, length, take, drop, Some, None, Option, ◌==◌, nat_le, slice_index}
 use Rattle.std.specs.declared.cmp.Ordering.{Ordering}
 use Rattle.std.specs.Borrow.{Bor}
 use Rattle.std.specs.Cmp.Lexicographic.{slice_cmp}
@@ -10,14 +10,19 @@ use Rattle.std.specs.Ordering.{nat_cmp}
 abbrev pub begins : ℕ → List ℕ → Bool
 begins b bs = b == 237 && nat_le 160 (slice_index bs 0)
 
--- the loose reading of bytes of which the first `owed`, at most two, are the end of a surrogate
-abbrev pub loose_after : ℕ → List ℕ → List ℕ
-loose_after owed [] = []
-loose_after owed (b ∷ bs) = cond (owed == 2) (191 ∷ loose_after 1 bs) (cond (owed == 1) (189 ∷ loose_after 0 bs) (cond (begins b bs) (239 ∷ loose_after 2 bs) (b ∷ loose_after 0 bs)))
+-- bytes begin with a surrogate
+abbrev pub begun : List ℕ → Bool
+begun bs = begins (slice_index bs 0) (drop 1 bs)
+
+-- the loose reading of bytes of which the first ones, the end of a surrogate, are read as `pending`
+abbrev pub loose_after : List ℕ → List ℕ → List ℕ
+loose_after pending [] = []
+loose_after (p ∷ pending) (b ∷ bs) = p ∷ loose_after pending bs
+loose_after [] (b ∷ bs) = cond (begins b bs) (239 ∷ loose_after (191 ∷ 189 ∷ []) bs) (b ∷ loose_after [] bs)
 
 -- the loose reading: each surrogate becomes EF BF BD
 abbrev pub loose : List ℕ → List ℕ
-loose bs = loose_after 0 bs
+loose bs = loose_after [] bs
 
 -- a surrogate occurs
 abbrev pub marked : List ℕ → Bool
@@ -39,12 +44,7 @@ order xs ys = slice_cmp nat_cmp xs ys
 
 -- what is still to come of a loose reading
 abbrev pub to_come : LooseBytes → List ℕ
-to_come bytes = loose_after bytes.owed bytes.rest.now
-
--- one step through bytes: nothing is left, or the first byte comes and `after` is left
-abbrev pub Steps : List ℕ → Option ℕ → List ℕ → Type 0
-Steps before None after = (before ≡ []) × (after ≡ [])
-Steps before (Some b) after = before ≡ b ∷ after
+to_come bytes = loose_after bytes.pending.now bytes.rest.now
 
 -- the reading of a text fits into `out` from `at` on
 abbrev pub fits : List ℕ → List ℕ → ℕ → Bool

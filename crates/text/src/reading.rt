@@ -1,27 +1,24 @@
 //! The readings of text that may hold surrogates: the loose reading, taken without a copy, and the plain reading.
 ghost use Rattle.std.specs.Prelude.{◌≡◌, Decides};
-ghost use Rattle.text.specs.Reading.{begins, loose, order, plain, seen, to_come, Steps, fits, written_end, written};
+ghost use Rattle.text.specs.Reading.{begun, loose, order, plain, seen, to_come, written_end, written};
 ghost use Rattle.text.specs.Laws.{PlainByCodePoints, LooseByCodePoints, LooseOrderIsTotal};
 
 use std::cmp::Ordering;
 
-/// Whether a byte and those after it begin with a surrogate.
-fn begins_surrogate(byte: u8, more: &[u8]) -> bool
-    ensures { result ≡ begins byte more.now }
+/// Whether bytes begin with a surrogate.
+fn begins_surrogate(bytes: &[u8]) -> bool
+    ensures { result ≡ begun bytes.now }
 {
-    match more {
-        [second, ..] => byte == 0xED && 0xA0 <= *second,
-        [] => false,
-    }
+    matches!(bytes, [0xED, 0xA0..=0xFF, ..])
 }
 
 /// The bytes of a loose reading that are still to come.
-#[derive(Clone, Copy)]
+#[derive(Clone, Copy, Debug)]
 pub struct LooseBytes<'a> {
     /// The bytes of the text that are not read yet.
     rest: &'a [u8],
-    /// How many of them, at most two, end a surrogate that is being replaced.
-    owed: u8,
+    /// What the first of them are read as, the end of a surrogate that is being replaced.
+    pending: &'static [u8],
 }
 
 impl<'a> LooseBytes<'a> {
@@ -31,25 +28,30 @@ impl<'a> LooseBytes<'a> {
     {
         LooseBytes {
             rest: text,
-            owed: 0,
+            pending: &[],
         }
     }
+}
 
-    /// The next byte of the reading, or none at its end.
-    pub fn next(&mut self) -> Option<u8>
-        ensures { Steps (to_come self.old) result (to_come self.new) }
-    {
-        let [byte, more @ ..] = self.rest else {
-            return None;
-        };
-        let (read, owed) = match self.owed {
-            2 => (0xBF, 1),
-            1 => (0xBD, 0),
-            _ if begins_surrogate(*byte, more) => (0xEF, 2),
-            _ => (*byte, 0),
+impl Iterator for LooseBytes<'_> {
+    ghost use Rattle.std.specs.Iterator.{YieldsFirst, item_count};
+    ghost use Rattle.text.specs.Reading.{to_come};
+
+    type Item = u8;
+
+    ghost next_gives = { YieldsFirst to_come };
+
+    ghost remaining = { item_count to_come };
+
+    fn next(&mut self) -> Option<u8> {
+        let (byte, more) = self.rest.split_first()?;
+        let (read, pending): (u8, &[u8]) = match self.pending {
+            [first, others @ ..] => (*first, others),
+            [] if begins_surrogate(self.rest) => (0xEF, b"\xBF\xBD"),
+            [] => (*byte, &[]),
         };
         self.rest = more;
-        self.owed = owed;
+        self.pending = pending;
         Some(read)
     }
 }
@@ -59,23 +61,7 @@ pub fn compare_loose(a: &[u8], b: &[u8]) -> Ordering
     ensures by_bytes { result ≡ order (loose a.now) (loose b.now) }
     ensures total { LooseOrderIsTotal }
 {
-    let mut left = LooseBytes::new(a);
-    let mut right = LooseBytes::new(b);
-    loop {
-        match (left.next(), right.next()) {
-            (None, None) => return Ordering::Equal,
-            (None, Some(_)) => return Ordering::Less,
-            (Some(_), None) => return Ordering::Greater,
-            (Some(x), Some(y)) => {
-                if x < y {
-                    return Ordering::Less;
-                }
-                if y < x {
-                    return Ordering::Greater;
-                }
-            }
-        }
-    }
+    LooseBytes::new(a).cmp(LooseBytes::new(b))
 }
 
 /// Whether two texts have the same loose reading.
@@ -90,21 +76,11 @@ pub fn plain_of(text: &[u8]) -> Option<&[u8]>
     ensures reading { seen result ≡ plain text.now }
     ensures by_points { PlainByCodePoints }
 {
-    let mut rest = text;
-    while let [byte, more @ ..] = rest {
-        if begins_surrogate(*byte, more) {
-            return None;
-        }
-        rest = more;
+    if text.windows(2).any(begins_surrogate) {
+        None
+    } else {
+        Some(text)
     }
-    Some(text)
-}
-
-/// Whether the reading of a text fits into `out` from `at` on.
-fn has_room(text: &[u8], out: &[u8], at: usize) -> bool
-    ensures { result ≡ fits text.now out.now at }
-{
-    at <= out.len() && text.len() <= out.len() - at
 }
 
 /// Writes the loose reading of a text over `out` from `at` on, and answers where it ends. Where it does not fit,
@@ -114,14 +90,9 @@ pub fn write_loose(text: &[u8], out: &mut [u8], at: usize) -> Option<usize>
     ensures contents { out.new ≡ written text.now out.old at }
     ensures by_points { LooseByCodePoints }
 {
-    if !has_room(text, out, at) {
-        return None;
-    }
-    let mut left = LooseBytes::new(text);
-    let mut i = at;
-    while let Some(byte) = left.next() {
+    let end = at.checked_add(text.len()).filter(|end| *end <= out.len())?;
+    for (i, byte) in (at..end).zip(LooseBytes::new(text)) {
         out[i] = byte;
-        i += 1;
     }
-    Some(i)
+    Some(end)
 }

@@ -1,22 +1,23 @@
-use Rattle.std.proofs.Common.{sym, subst}
-use Rattle.std.proofs.lemmas.Bool.{false≢true, both_ways}
-use Rattle.text.specs.Points.{Wtf8After}
-use Rattle.text.proofs.Wellformed.{wtf8_rest, wtf8_more, wtf8_refused, shorter}
+use Rattle.std.proofs.Common.{arith}
+use Rattle.std.proofs.lemmas.Bool.Decides.{nat_tests}
+use Rattle.text.proofs.Wellformed.{along, paired, broken}
 use Rattle.text.proofs.points.is_wtf8.Goals as goal
 
-pub returns-in-Bad : goal.returns-in-Bad
-returns-in-Bad c = let b = c.in-Bad.ensures in ((λ f. absurd (false≢true f)), λ w. absurd (wtf8_refused _ _ b.0 b.1 (c.loop-point.invariant.0 w)))
+pub returns-in-Ok-56320-to-57343 : goal.returns-in-Ok-56320-to-57343
+returns-in-Ok-56320-to-57343 c = paired _ _ _ _ _ c.loop-point.invariant c.in-Some.ensures.steps _ c.in-Ok-56320-to-57343.is (grind (arith, nat_tests))
 
-pub returns-then-completes : goal.returns-then-completes
-returns-then-completes c = ((λ f. absurd (false≢true f)), λ w. absurd (both_ways _ (wtf8_rest _ _ _ _ c.in-Point.ensures.1 (c.loop-point.invariant.0 w)).0 (sym c.if-completes.ensures)))
+pub returns-in-Err : goal.returns-in-Err
+returns-in-Err c = broken _ _ _ _ _ c.loop-point.invariant c.in-Some.ensures.steps _ c.in-Err.is
 
-pub loop-point-smaller : goal.loop-point-smaller
-loop-point-smaller c = shorter _ _ _ c.in-Point.ensures.1
+pub loop-point-preserved-in-Ok-55296-to-56319 : goal.loop-point-preserved-in-Ok-55296-to-56319
+loop-point-preserved-in-Ok-55296-to-56319 c =
+    along _ _ _ _ _ c.loop-point.invariant c.in-Some.ensures.steps _ _ c.in-Ok-55296-to-56319.is (grind (arith, nat_tests)) (grind (arith, nat_tests))
+
+pub loop-point-preserved-in-Ok : goal.loop-point-preserved-in-Ok
+loop-point-preserved-in-Ok c = along _ _ _ _ _ c.loop-point.invariant c.in-Some.ensures.steps _ _ c.in-Ok.is (grind (arith, nat_tests)) (grind (arith, nat_tests))
+
+pub loop-point-preserved-in-Ok-2 : goal.loop-point-preserved-in-Ok-2
+loop-point-preserved-in-Ok-2 c = along _ _ _ _ _ c.loop-point.invariant c.in-Some.ensures.steps _ _ c.in-Ok.is (grind (arith, nat_tests)) (grind (arith, nat_tests))
 
 pub loop-point-preserved : goal.loop-point-preserved
-loop-point-preserved c =
-    let e = c.in-Point.ensures in
-    let h = c.is_high-after_high.ensures in (
-      (λ w. subst (λ b. Wtf8After b c.in-Point.more.now) (sym h) (wtf8_rest _ _ _ _ e.1 (c.loop-point.invariant.0 w)).1),
-      λ w. c.loop-point.invariant.1 (wtf8_more _ _ _ _ e.0 e.1 (sym c.if-completes.ensures) (subst (λ b. Wtf8After b c.in-Point.more.now) h w)),
-    )
+loop-point-preserved c = along _ _ _ _ _ c.loop-point.invariant c.in-Some.ensures.steps _ _ c.in-Ok.is (grind (arith, nat_tests)) (grind (arith, nat_tests))

@@ -1,18 +1,17 @@
-use Rattle.std.proofs.Common.{rules}
+use Rattle.std.proofs.Common.{◌≡◌, refl, ap, ◌∙◌}
+use Rattle.std.specs.Ordering.{nat_cmp}
+use Rattle.std.proofs.lemmas.Iterator.Consumers.{YieldsList-from_first}
+use Rattle.std.proofs.lemmas.Iterator.Search.{cmp_from_yields_List}
+use Rattle.text.specs.Reading.{to_come}
 use Rattle.text.proofs.Orders.{loose_order_is_total}
 use Rattle.text.proofs.reading.compare_loose.Goals as goal
 
-pub returns-in-None-None : goal.returns-in-None-None
-returns-in-None-None c = record { by_bytes = search rules; total = loose_order_is_total }
+pub returns-clause-by_bytes : goal.returns-clause-by_bytes
+returns-clause-by_bytes c =
+    cmp_from_yields_List (λ x y. y ≡ x) _ nat_cmp _ c.cmp.ensures.ran
+    (YieldsList-from_first (λ x. x) to_come _ c.new.ensures)
+    (λ it h. YieldsList-from_first (λ x. x) to_come _ (ap to_come h ∙ c.new-2.ensures))
+    (λ x y. refl)
 
-pub returns-in-None-Some : goal.returns-in-None-Some
-returns-in-None-Some c = record { by_bytes = search rules; total = loose_order_is_total }
-
-pub returns-in-Some-None : goal.returns-in-Some-None
-returns-in-Some-None c = record { by_bytes = search rules; total = loose_order_is_total }
-
-pub returns-then-x-y : goal.returns-then-x-y
-returns-then-x-y c = record { by_bytes = search rules; total = loose_order_is_total }
-
-pub returns-then-y-x : goal.returns-then-y-x
-returns-then-y-x c = record { by_bytes = search rules; total = loose_order_is_total }
+pub returns-clause-total : goal.returns-clause-total
+returns-clause-total c = loose_order_is_total

@@ -1,22 +1,22 @@
-use Rattle.std.proofs.Common.{sym, ap, ◌∙◌, arith, ltb-false, ltb-true}
-use Rattle.std.proofs.lemmas.List.{nil_from_length}
+use Rattle.std.proofs.Common.{rules, sym, ◌∙◌}
+use borrow.Author.Tests.{tests}
 use Rattle.std.proofs.lemmas.Bool.{cond-true, cond-false}
-use Rattle.text.specs.Reading.{marked}
-use Rattle.text.proofs.Bytewise.{found, passed}
+use Rattle.text.proofs.Bytewise.{marked_from_any}
 use Rattle.text.proofs.ByPoints.{plain_by_code_points}
 use Rattle.text.proofs.reading.plain_of.Goals as goal
 
-pub returns-then-begins_surrogate : goal.returns-then-begins_surrogate
-returns-then-begins_surrogate c = record {
-  reading = sym (cond-true _ _ _ (c.loop-rest.invariant ∙ found c.loop-rest.rest.now (omega (arith, ltb-false)) (sym c.if-begins_surrogate.ensures)));
-  by_points = plain_by_code_points;
-}
+pub returns-then-any-clause-reading : goal.returns-then-any-clause-reading
+returns-then-any-clause-reading c =
+    let found = marked_from_any _ _ c.any.result c.args.text.now c.any.ensures.ran c.windows.ensures.rest c.windows.ensures.size (λ w b q k. search (rules, tests)) in
+    sym (cond-true _ _ _ (sym found ∙ c.if-any.true))
 
-pub loop-rest-preserved : goal.loop-rest-preserved
-loop-rest-preserved c = c.loop-rest.invariant ∙ passed c.loop-rest.rest.now (omega (arith, ltb-false)) (sym c.if-begins_surrogate.ensures)
+pub returns-then-any-clause-by_points : goal.returns-then-any-clause-by_points
+returns-then-any-clause-by_points c = plain_by_code_points
 
-pub returns : goal.returns
-returns c = record {
-  reading = sym (cond-false _ _ _ (c.loop-rest.invariant ∙ ap marked (nil_from_length c.loop-rest.rest.now (omega (arith, ltb-true)))));
-  by_points = plain_by_code_points;
-}
+pub returns-else-any-clause-reading : goal.returns-else-any-clause-reading
+returns-else-any-clause-reading c =
+    let found = marked_from_any _ _ c.any.result c.args.text.now c.any.ensures.ran c.windows.ensures.rest c.windows.ensures.size (λ w b q k. search (rules, tests)) in
+    sym (cond-false _ _ _ (sym found ∙ c.if-any.false))
+
+pub returns-else-any-clause-by_points : goal.returns-else-any-clause-by_points
+returns-else-any-clause-by_points c = plain_by_code_points

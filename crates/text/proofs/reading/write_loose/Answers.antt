@@ -1,38 +1,46 @@
-use Rattle.std.proofs.Common.{◌+◌, ◌++◌, length, take, drop, Some, sym, ap, ◌∙◌, arith, leb-true}
+use Rattle.std.proofs.Common.{rules, ◌≡◌, ◌+◌, ◌≤◌, [], ◌++◌, length, take, drop, sym, ap, ◌∙◌, ⊎_elim, arith}
+use Rattle.std.proofs.lemmas.List.{nil_from_length}
 use lib.Seq.{sets, sets-eq}
-use Rattle.std.proofs.lemmas.Bool.{cond-true, cond-false}
-use Rattle.text.specs.Reading.{loose}
+use Rattle.std.proofs.lemmas.Bool.{cond-true, le-leb}
+use Rattle.std.specs.Iterator.Adapters.{zip_first, zip_second}
+use Rattle.text.specs.Reading.{loose, to_come}
 use Rattle.text.proofs.ByPoints.{length_loose, loose_by_code_points}
 use Rattle.text.proofs.reading.write_loose.Goals as goal
 
-pub returns-then-not-has_room : goal.returns-then-not-has_room
-returns-then-not-has_room c =
-    let e = sym c.if-not-has_room.ensures in
-    record { end = sym (cond-false _ _ _ e); contents = sym (cond-false _ _ _ e); by_points = loose_by_code_points }
+pub returns-in_err-end-clause-by_points : goal.returns-in_err-end-clause-by_points
+returns-in_err-end-clause-by_points c = loose_by_code_points
 
-pub loop-byte-init : goal.loop-byte-init
-loop-byte-init c = (
-  ap (sets c.args.out.now c.args.at) (sym c.new-left.ensures),
-  omega (arith, ap length c.new-left.ensures, length_loose c.args.text.now),
-  leb-true _ _ (sym c.if-not-has_room.ensures),
-)
+pub returns-clause-by_points : goal.returns-clause-by_points
+returns-clause-by_points c = loose_by_code_points
 
-pub returns : goal.returns
-returns c =
+pub loop-i-init : goal.loop-i-init
+loop-i-init c =
+    let all = c.into_iter-i-iterator.ensures.into_iter_gives in
+    let first = ap zip_first all ∙ c.zip-i-items.ensures.first in
+    let second = ap to_come (ap zip_second all ∙ c.zip-i-items.ensures.second) ∙ c.new.ensures in
+    let ends : c.in_ok-end.end ≡ c.args.at + length c.args.text.now = search rules in
+    let n = length_loose c.args.text.now in
+    record {
+      same = sym (λ i. sets c.args.out.now (first i).start (second i));
+      end = ap (λ r. r.end) first;
+      left = (λ i. (first i).start + length (second i)) ∙ ap (λ k. c.args.at + k) n ∙ sym ends;
+    }
+
+pub returns-clause-contents : goal.returns-clause-contents
+returns-clause-contents c =
+    let ends : c.in_ok-end.end ≡ c.args.at + length c.args.text.now = search rules in
+    let fits : c.in_ok-end.end ≤ length c.args.out.now = search rules in
     let text = c.args.text.now in
     let out = c.args.out.now in
     let at = c.args.at in
-    let room = sym c.if-not-has_room.ensures in
-    let done = c.in_default.ensures.0 in
+    let it = c.loop-i.i-iterator in
     let n = length_loose text in
-    let l = leb-true (at + length text) (length out) room in
-    record {
-      end = ap Some (omega (arith, ap length done)) ∙ sym (cond-true _ _ _ room);
-      contents =
-          sym (ap (sets c.loop-byte.out c.loop-byte.i) done)
-          ∙ sym c.loop-byte.invariant.0
-          ∙ sets-eq (loose text) out at (omega arith)
-          ∙ ap (λ k. take at out ++ loose text ++ drop (at + k) out) n
-          ∙ sym (cond-true _ _ _ room);
-      by_points = loose_by_code_points;
-    }
+    let done : to_come (zip_second it) ≡ [] = ⊎_elim
+    (λ l. nil_from_length _ (let gap = l.1.1.0 in omega (arith, c.loop-i.invariant.left, c.loop-i.invariant.end)))
+    (λ r. r.1.0)
+    c.in-None.ensures.steps in
+    sym (ap (sets c.loop-i.out (zip_first it).start) done)
+    ∙ sym c.loop-i.invariant.same
+    ∙ sets-eq (loose text) out at (omega arith)
+    ∙ ap (λ k. take at out ++ loose text ++ drop (at + k) out) n
+    ∙ sym (cond-true _ _ _ (le-leb (at + length text) (length out) (omega arith)))

@@ -1,12 +1,12 @@
-use Rattle.std.proofs.Common.{◌≡◌, ◌+◌, ◌≤◌, length}
+use Rattle.std.proofs.Common.{◌≡◌, ◌+◌, length}
 use lib.Seq.{sets}
+use Rattle.std.specs.Iterator.Adapters.{zip_first, zip_second}
 use Rattle.text.specs.Reading.{loose, to_come}
 use Rattle.text.proofs.reading.write_loose.Given as goal
 
-abbrev pub invariant-loop-byte : goal.invariant-loop-byte
-invariant-loop-byte l = (sets l.initial.out l.at (loose l.text) ≡ sets l.out l.i (to_come l.left))
-    × (l.i + length (to_come l.left) ≡ l.at + length l.text)
-    × (l.at + length l.text ≤ length l.out)
-
-abbrev pub decreases-loop-byte : goal.decreases-loop-byte
-decreases-loop-byte l = length (to_come l.left)
+abbrev pub invariant-loop-i : goal.invariant-loop-i
+invariant-loop-i l = record {
+  same : sets l.initial.out l.at (loose l.text) ≡ sets l.out (zip_first l.i-iterator).start (to_come (zip_second l.i-iterator));
+  end : (zip_first l.i-iterator).end ≡ l.end;
+  left : (zip_first l.i-iterator).start + length (to_come (zip_second l.i-iterator)) ≡ l.end;
+}
