@@ -1,6 +1,5 @@
 mod Places
+mod Rising
+mod Entered
 mod Removes
-mod Checks
-mod Inserts
-mod Tables
 mod Zeros

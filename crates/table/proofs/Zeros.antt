@@ -1,22 +1,18 @@
--- Rows that are all the row that stands where none is.
-use Rattle.std.proofs.Common.{◌≡◌, ℕ, ◌+◌, ◌-◌, ◌<◌, ◌≤◌, List, length, get_or, drop, replicate, sym, ap, ◌∙◌, ⊎_elim, arith}
-use Rattle.std.proofs.lemmas.List.{get_or-drop, get_or_read, get_or-replicate, length-drop, length-replicate, same_lists}
-use Rattle.std.proofs.lemmas.Bool.{cases_eq}
+-- Rows that are all one row.
+use Rattle.std.proofs.Common.{◌≡◌, ℕ, Bool, true, List, [], ◌∷◌, length, replicate, Decides, sym, refl, ◌∙◌}
+use Rattle.std.specs.List.{list_all}
+use Rattle.std.proofs.lemmas.Bool.{and_parts}
+use Rattle.std.proofs.lemmas.List.Elements.{All-replicate}
+use Rattle.std.proofs.lemmas.List.Sums.{list_all-from_AllPass}
 
-module _ {X : Type 0} (z : X) (rows : List X) (from : ℕ) where
-  abbrev pub Zeros : ℕ → Type 0
-  Zeros i = (k : ℕ) (d : X) → from ≤ k → k < i → get_or rows k d ≡ z
+module _ {X : Type 0} (eq : X → X → Bool) (same : (x y : X) → eq x y ≡ true → x ≡ y) (reflexive : (x : X) → eq x x ≡ true) where
+  all_one : (z : X) (xs : List X) → list_all (λ x. eq x z) xs ≡ true → xs ≡ replicate (length xs) z
+  all_one z [] e = refl
+  all_one z (x ∷ xs) e = let h = and_parts _ _ e in λ i. same x z h.0 i ∷ all_one z xs h.1 i
 
-  pub zeros_more : (i : ℕ) (x : X) → i < length rows → x ≡ get_or rows i x → x ≡ z → Zeros i → Zeros (i + 1)
-  zeros_more i x lt is e h k d a b = ⊎_elim (λ q. ap (λ j. get_or rows j d) q ∙ sym (get_or_read rows i x lt is d) ∙ e) (λ q. h k d a (omega arith)) (cases_eq k i)
-
-  pub zeros_all : (i : ℕ) → length rows ≤ i → Zeros i → drop from rows ≡ replicate (length rows - from) z
-  zeros_all i le h =
-      let l = length-drop from rows in
-      same_lists (drop from rows) (replicate (length rows - from) z) (l ∙ sym (length-replicate (length rows - from) z))
-      (λ k d lt. get_or-drop from rows k d ∙ h (from + k) d (omega arith) (omega arith) ∙ sym (get_or-replicate (length rows - from) k z d (omega arith)))
-
-  pub zero_there : (i : ℕ) (x : X) → from ≤ i → i < length rows → x ≡ get_or rows i x → drop from rows ≡ replicate (length rows - from) z → x ≡ z
-  zero_there i x a lt is e =
-      let at : from + (i - from) ≡ i = omega arith in
-      is ∙ ap (λ j. get_or rows j x) (sym at) ∙ sym (get_or-drop from rows (i - from) x) ∙ ap (λ l. get_or l (i - from) x) e ∙ get_or-replicate (length rows - from) (i - from) z x (omega arith)
+  -- whether each row equals the default says whether they are all the row that the default is
+  pub zeros_by_all : (z default : X) (xs : List X) (r : Bool) → r ≡ list_all (λ x. eq x default) xs → default ≡ z → (n : ℕ) → length xs ≡ n → Decides r (xs ≡ replicate n z)
+  zeros_by_all z default xs r is zero n long = (
+    λ e. all_one default xs (sym is ∙ e) ∙ (λ i. replicate (long i) (zero i)),
+    λ e. is ∙ (λ i. list_all (λ x. eq x (zero i)) (e i)) ∙ list_all-from_AllPass (λ x. eq x z) (replicate n z) (All-replicate (λ x. eq x z ≡ true) n z (reflexive z)),
+  )

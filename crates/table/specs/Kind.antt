@@ -1,6 +1,7 @@
 -- A kind of rows, and a table of them.
 use Rattle.std.specs.Prelude.{ℕ, Bool, List, map, length, take, Result}
 use Rattle.std.specs.declared.cmp.Ordering.{Ordering}
+use Rattle.table.specs.declared.table.OrderedTable.{OrderedTable}
 use Rattle.table.specs.Table.{Entered, InOrder, Left, Rest, insert_row, place, put_row, without}
 
 -- how rows of a type are kept in order: the key of a row in a text, the row that stands where none is, and the order of keys
@@ -14,16 +15,27 @@ pub record Holds {X : Type 0} (k : Kind X) (text : List ℕ) (n : ℕ) (rows : L
   pub ordered : InOrder k.order (k.key text) (take n rows)
   pub rest : Rest k.zero n rows
 
--- where a key belongs among the first n rows
-abbrev pub place_in : {X : Type 0} → Kind X → List ℕ → List ℕ → ℕ → List X → Result ℕ ℕ
-place_in k needle text n rows = place k.order needle (map (k.key text) (take n rows))
+-- the rows that a table holds, and a table that holds them so
+abbrev pub held : {X : Type 0} → OrderedTable X → List X
+held t = take t.len t.rows.now
+
+abbrev pub Ordered : {X : Type 0} → Kind X → List ℕ → OrderedTable X → Type 0
+Ordered k text t = Holds k text t.len t.rows.now
+
+-- where a key belongs in a table
+abbrev pub place_in : {X : Type 0} → Kind X → List ℕ → List ℕ → OrderedTable X → Result ℕ ℕ
+place_in k needle text t = place k.order needle (map (k.key text) (held t))
+
+-- what an entry that is to leave ys in the table s answers, and leaves in t
+abbrev pub Enters : {X E : Type 0} → Kind X → List X → OrderedTable X → Result Bool E → OrderedTable X → Type 0
+Enters k ys s r t = Entered k.zero s.len s.rows.now ys r t.len t.rows.now
 
 -- what an insertion, a replacement and a removal answer and leave
-abbrev pub Inserts : {X E : Type 0} → Kind X → List ℕ → X → ℕ → List X → Result Bool E → ℕ → List X → Type 0
-Inserts k text r n rows = Entered k.zero n rows (insert_row k.order (k.key text) r (take n rows))
+abbrev pub Inserts : {X E : Type 0} → Kind X → List ℕ → X → OrderedTable X → Result Bool E → OrderedTable X → Type 0
+Inserts k text r s = Enters k (insert_row k.order (k.key text) r (held s)) s
 
-abbrev pub Puts : {X E : Type 0} → Kind X → List ℕ → X → ℕ → List X → Result Bool E → ℕ → List X → Type 0
-Puts k text r n rows = Entered k.zero n rows (put_row k.order (k.key text) r (take n rows))
+abbrev pub Puts : {X E : Type 0} → Kind X → List ℕ → X → OrderedTable X → Result Bool E → OrderedTable X → Type 0
+Puts k text r s = Enters k (put_row k.order (k.key text) r (held s)) s
 
-abbrev pub Removes : {X : Type 0} → Kind X → List ℕ → List X → ℕ → List X → ℕ → List X → Type 0
-Removes k text others n rows = Left k.zero (length rows) (without k.order (k.key text) others (take n rows))
+abbrev pub Removes : {X : Type 0} → Kind X → List ℕ → OrderedTable X → OrderedTable X → OrderedTable X → Type 0
+Removes k text other s t = Left k.zero (length s.rows.now) (without k.order (k.key text) (held other) (held s)) t.len t.rows.now

@@ -1,5 +1,6 @@
 -- What a table in order holds, and what it holds after an entry, a replacement and a removal.
-use Rattle.std.specs.Prelude.{◌≡◌, ℕ, suc, ◌-◌, ◌<◌, ◌≤◌, Bool, List, [], ◌∷◌, ◌++◌, map, length, drop, replicate, is_err, Ok, Err, filter, Result, nat_lt, slice_index_or}
+use Rattle.std.specs.Prelude.{◌≡◌, ℕ, suc, ◌-◌, ◌<◌, ◌≤◌, Bool, List, [], ◌∷◌, ◌++◌, map, length, drop, replicate, is_err, Ok, Err, filter, Result, nat_lt}
+use Rattle.std.specs.List.{AllPairs}
 use Rattle.std.specs.declared.cmp.Ordering.TheVariants.{Less, Equal, Greater}
 use Rattle.std.specs.declared.cmp.Ordering.{Ordering}
 
@@ -18,15 +19,18 @@ abbrev pub place : {K : Type 0} → (K → K → Ordering) → K → List K → 
 place o k [] = Err 0
 place o k (x ∷ xs) = by_rank (o k x) (Err 0) (Ok 0) (later (place o k xs))
 
--- the row goes before the first of a greater key; where one of its key stands, that one stays
-abbrev pub insert_row : {X K : Type 0} → (K → K → Ordering) → (X → K) → X → List X → List X
-insert_row o key r [] = r ∷ []
-insert_row o key r (x ∷ xs) = by_rank (o (key r) (key x)) (r ∷ x ∷ xs) (x ∷ xs) (x ∷ insert_row o key r xs)
+-- the row goes before the first of a greater key; where one of its key stands, `pick` of the two takes that one's place
+abbrev pub enter_row : {X K : Type 0} → (X → X → X) → (K → K → Ordering) → (X → K) → X → List X → List X
+enter_row pick o key r [] = r ∷ []
+enter_row pick o key r (x ∷ xs) = by_rank (o (key r) (key x)) (r ∷ x ∷ xs) (pick r x ∷ xs) (x ∷ enter_row pick o key r xs)
 
--- the row goes before the first of a greater key; where one of its key stands, it takes that one's place
+-- an entry after which a row of the same key that stood there stands
+abbrev pub insert_row : {X K : Type 0} → (K → K → Ordering) → (X → K) → X → List X → List X
+insert_row = enter_row (λ r x. x)
+
+-- an entry after which the new row stands in its place
 abbrev pub put_row : {X K : Type 0} → (K → K → Ordering) → (X → K) → X → List X → List X
-put_row o key r [] = r ∷ []
-put_row o key r (x ∷ xs) = by_rank (o (key r) (key x)) (r ∷ x ∷ xs) (r ∷ xs) (x ∷ put_row o key r xs)
+put_row = enter_row (λ r x. r)
 
 -- the rows whose keys are not among those of others
 abbrev pub without : {X K : Type 0} → (K → K → Ordering) → (X → K) → List X → List X → List X
@@ -34,7 +38,7 @@ without o key others xs = filter (λ r. is_err (place o (key r) (map key others)
 
 -- keys that rise strictly
 abbrev pub Ascends : {K : Type 0} → (K → K → Ordering) → List K → Type 0
-Ascends {K} o ks = (i j : ℕ) (d : K) → i < j → j < length ks → o (slice_index_or ks i d) (slice_index_or ks j d) ≡ Less
+Ascends o = AllPairs (λ x y. o x y ≡ Less)
 
 -- rows whose keys rise strictly
 pub record InOrder {X K : Type 0} (o : K → K → Ordering) (key : X → K) (xs : List X) : Type 0 where

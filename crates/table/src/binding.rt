@@ -1,4 +1,5 @@
 //! Bindings as rows: by the bytes of their names.
+ghost use Rattle.std.proofs.Common.{rules};
 ghost use Rattle.table.specs.Kinds.{bindings};
 ghost use Rattle.table.specs.Totals.{numbers_total};
 
@@ -7,7 +8,7 @@ use std::cmp::Ordering;
 use text::Place;
 
 /// A name, and the text that it is bound to.
-#[derive(Clone, Copy)]
+#[derive(Clone, Copy, PartialEq, Eq, Debug, Default)]
 pub struct Binding {
     pub name: Place,
     pub value: Place,
@@ -18,22 +19,13 @@ impl Row for Binding {
 
     ghost total = { numbers_total };
 
-    fn none() -> Self {
-        let zero = Place {
-            offset: 0,
-            length: 0,
-        };
-        Binding {
-            name: zero,
-            value: zero,
-        }
-    }
+    ghost zero = { Prim.search rules };
 
-    fn is_none(&self) -> bool {
-        self.name.is_none() && self.value.is_none()
-    }
+    ghost same = { Prim.search rules };
+
+    ghost clones = { Prim.search rules };
 
     fn compare(&self, text: &[u8], other: &Self, from: &[u8]) -> Ordering {
-        self.name.part(text).cmp(&other.name.part(from))
+        self.name.part(text).cmp(other.name.part(from))
     }
 }

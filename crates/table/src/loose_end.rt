@@ -1,4 +1,5 @@
 //! Loose ends as rows: by module, then by place.
+ghost use Rattle.std.proofs.Common.{rules};
 ghost use Rattle.table.specs.Kinds.{loose_ends};
 ghost use Rattle.table.specs.Totals.{numbers_total};
 
@@ -6,7 +7,7 @@ use crate::row::Row;
 use std::cmp::Ordering;
 
 /// A re-export of a module, by the place of its text, that leads to no module.
-#[derive(Clone, Copy)]
+#[derive(Clone, Copy, PartialEq, Eq, PartialOrd, Ord, Debug, Default)]
 pub struct LooseEnd {
     pub module: u32,
     pub offset: u32,
@@ -18,27 +19,13 @@ impl Row for LooseEnd {
 
     ghost total = { numbers_total };
 
-    fn none() -> Self {
-        LooseEnd {
-            module: 0,
-            offset: 0,
-            length: 0,
-        }
-    }
+    ghost zero = { Prim.search rules };
 
-    fn is_none(&self) -> bool {
-        self.module == 0 && self.offset == 0 && self.length == 0
-    }
+    ghost same = { Prim.search rules };
+
+    ghost clones = { Prim.search rules };
 
     fn compare(&self, _text: &[u8], other: &Self, _from: &[u8]) -> Ordering {
-        match self.module.cmp(&other.module) {
-            Ordering::Less => Ordering::Less,
-            Ordering::Greater => Ordering::Greater,
-            Ordering::Equal => match self.offset.cmp(&other.offset) {
-                Ordering::Less => Ordering::Less,
-                Ordering::Greater => Ordering::Greater,
-                Ordering::Equal => self.length.cmp(&other.length),
-            },
-        }
+        self.cmp(other)
     }
 }

@@ -1,4 +1,5 @@
 //! Places of a text as rows: by the loose reading of their texts.
+ghost use Rattle.std.proofs.Common.{rules};
 ghost use Rattle.table.specs.Kinds.{places};
 ghost use Rattle.table.specs.Totals.{numbers_total};
 
@@ -11,16 +12,11 @@ impl Row for Place {
 
     ghost total = { numbers_total };
 
-    fn none() -> Self {
-        Place {
-            offset: 0,
-            length: 0,
-        }
-    }
+    ghost zero = { Prim.search rules };
 
-    fn is_none(&self) -> bool {
-        self.offset == 0 && self.length == 0
-    }
+    ghost same = { Prim.search rules };
+
+    ghost clones = { Prim.search rules };
 
     fn compare(&self, text: &[u8], other: &Self, from: &[u8]) -> Ordering {
         compare_loose(self.part(text), other.part(from))

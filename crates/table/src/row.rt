@@ -1,26 +1,28 @@
 //! A kind of rows.
-ghost use Rattle.std.specs.Prelude.{◌≡◌, Decides};
+ghost use Rattle.std.specs.Prelude.{◌≡◌, true};
 ghost use Rattle.table.specs.Kind.{Kind};
 ghost use Rattle.table.specs.Order.{TotalOrder};
 
 use std::cmp::Ordering;
 
 /// A row that a table keeps by its key. The key lies in a text that is lent to each call.
-pub trait Row: Copy {
+/// The default is the row that stands where none is.
+pub trait Row: Copy + Default + Eq {
     /// the key of a row in a text, the order of keys, and the row that stands where none is
     ghost kind: { Kind Self };
-
-    /// The row that stands where none is.
-    fn none() -> Self
-        ensures { result ≡ kind.zero };
-
-    /// Whether this is the row that stands where none is.
-    fn is_none(&self) -> bool
-        ensures { Decides result (self.now ≡ kind.zero) };
 
     /// The order of the keys of two rows, each in its own text.
     fn compare(&self, text: &[u8], other: &Self, from: &[u8]) -> Ordering
         ensures { result ≡ kind.order (kind.key text.now self.now) (kind.key from.now other.now) };
 
     ghost total: { TotalOrder kind.order };
+
+    /// the default is the row that stands where none is
+    ghost zero: { (x : Self) → Self.is_default x → x ≡ kind.zero };
+
+    /// rows that `==` holds of are one row
+    ghost same: { (x y : Self) → Self.eq x y ≡ true → x ≡ y };
+
+    /// a clone does not fail, and is the row
+    ghost clones: { (x : Self) → Self.is_infallible x × ((y : Self) → Self.is_clone x y → y ≡ x) };
 }

@@ -1,38 +1,52 @@
 //! The ordered table.
 ghost use Rattle.std.specs.Prelude.{◌≡◌, ℕ, ◌≤◌, List, length, take, replicate};
 ghost use Rattle.std.specs.List.{insert};
-ghost use Rattle.table.specs.Kind.{Holds, Inserts, Puts, Removes, place_in};
+ghost use Rattle.std.specs.List.Sorted.{IsSearchInRange};
+ghost use Rattle.table.specs.Kind.{Enters, Inserts, Ordered, Puts, Removes, held, place_in};
 ghost use Rattle.table.specs.Order.{TotalOrder};
-ghost use Rattle.table.specs.Table.{Entered, Rest};
+ghost use Rattle.table.specs.Table.{Rest};
 
 use crate::row::Row;
-use crate::rows::{find_in, open_at, sift, store, wipe};
+use crate::rows::{open_at, sift};
 
 /// No row is free for a new key.
-#[derive(Clone, Copy)]
+#[derive(Clone, Copy, PartialEq, Eq, Debug)]
 pub struct Full;
 
-/// Lent rows, of which the first `len` are held in order.
+/// Lent rows, of which the first `len` are held in order. Memory is lent, so this is no `Vec`.
+// `Ordered` is asked at each call, and is no invariant: rows may hold anything before `clear`, and an invariant would want the text
+// in every table, and at a removal still that two tables have one text.
 #[derive(Drop)]
 pub struct OrderedTable<'a, R> {
     pub rows: &'a mut [R],
     pub len: usize,
 }
 
+impl<'a, R> OrderedTable<'a, R> {
+    /// The rows that are held; every row, where `len` is past the last.
+    pub fn held(&self) -> &[R]
+        ensures { result.now ≡ held self.now }
+    {
+        self.rows.get(..self.len).unwrap_or(&*self.rows)
+    }
+}
+
 impl<'a, R: Row> OrderedTable<'a, R> {
     /// Where a row's key stands, or where it belongs. The row may have its key in a text of its own.
     pub fn find(&self, text: &[u8], needle: &R, from: &[u8]) -> Result<usize, usize>
-        requires { Holds R.Row.kind text.now self.now.len self.now.rows.now }
-        ensures place { result ≡ place_in R.Row.kind (R.Row.kind.key from.now needle.now) text.now self.now.len self.now.rows.now }
+        requires { Ordered R.Row.kind text.now self.now }
+        ensures place { result ≡ place_in R.Row.kind (R.Row.kind.key from.now needle.now) text.now self.now }
+        ensures within { IsSearchInRange result self.now.len }
         ensures total { TotalOrder R.Row.kind.order }
     {
-        find_in(&self.rows[0..self.len], text, needle, from)
+        self.held()
+            .binary_search_by(|row| row.compare(text, needle, from))
     }
 
     /// Enters a row at a place, where there is room.
     fn enter(&mut self, i: usize, row: R) -> Result<bool, Full>
         requires { (i ≤ self.old.len) × (Rest R.Row.kind.zero self.old.len self.old.rows.now) }
-        ensures after { Entered R.Row.kind.zero self.old.len self.old.rows.now (insert (take self.old.len self.old.rows.now) i row) result self.new.len self.new.rows.now }
+        ensures after { Enters R.Row.kind (insert (held self.old) i row) self.old result self.new }
         ensures lender { self.new.rows.ghost_name ≡ self.old.rows.ghost_name }
     {
         let n = self.len;
@@ -46,9 +60,9 @@ impl<'a, R: Row> OrderedTable<'a, R> {
 
     /// A row whose key is new goes to its place; where a row of that key stands, that one stays.
     pub fn insert(&mut self, text: &[u8], row: R) -> Result<bool, Full>
-        requires { Holds R.Row.kind text.now self.old.len self.old.rows.now }
-        ensures after { Inserts R.Row.kind text.now row self.old.len self.old.rows.now result self.new.len self.new.rows.now }
-        ensures held { Holds R.Row.kind text.now self.new.len self.new.rows.now }
+        requires { Ordered R.Row.kind text.now self.old }
+        ensures after { Inserts R.Row.kind text.now row self.old result self.new }
+        ensures held { Ordered R.Row.kind text.now self.new }
         ensures lender { self.new.rows.ghost_name ≡ self.old.rows.ghost_name }
     {
         match self.find(text, &row, text) {
@@ -59,14 +73,15 @@ impl<'a, R: Row> OrderedTable<'a, R> {
 
     /// A row whose key is new goes to its place; where a row of that key stands, this one replaces it.
     pub fn put(&mut self, text: &[u8], row: R) -> Result<bool, Full>
-        requires { Holds R.Row.kind text.now self.old.len self.old.rows.now }
-        ensures after { Puts R.Row.kind text.now row self.old.len self.old.rows.now result self.new.len self.new.rows.now }
-        ensures held { Holds R.Row.kind text.now self.new.len self.new.rows.now }
+        requires { Ordered R.Row.kind text.now self.old }
+        ensures after { Puts R.Row.kind text.now row self.old result self.new }
+        ensures held { Ordered R.Row.kind text.now self.new }
         ensures lender { self.new.rows.ghost_name ≡ self.old.rows.ghost_name }
     {
+        // `insert` differs in this arm alone, which as a closure would want a clause longer than itself.
         match self.find(text, &row, text) {
             Ok(i) => {
-                store(self.rows, i, row);
+                self.rows[i] = row;
                 Ok(false)
             }
             Err(i) => self.enter(i, row),
@@ -77,24 +92,23 @@ impl<'a, R: Row> OrderedTable<'a, R> {
     pub fn clear(&mut self)
         ensures len { self.new.len ≡ 0 }
         ensures rows { self.new.rows.now ≡ replicate (length self.old.rows.now) R.Row.kind.zero }
-        ensures held { (text : List ℕ) → Holds R.Row.kind text self.new.len self.new.rows.now }
+        ensures held { (text : List ℕ) → Ordered R.Row.kind text self.new }
         ensures lender { self.new.rows.ghost_name ≡ self.old.rows.ghost_name }
     {
-        wipe(self.rows, 0);
+        self.rows.fill(R::default());
         self.len = 0;
     }
 
     /// Removes each row whose key another table has.
     pub fn remove_all(&mut self, text: &[u8], other: &OrderedTable<R>)
-        requires own { Holds R.Row.kind text.now self.old.len self.old.rows.now }
-        requires others { Holds R.Row.kind text.now other.now.len other.now.rows.now }
-        ensures after { Removes R.Row.kind text.now (take other.now.len other.now.rows.now) self.old.len self.old.rows.now self.new.len self.new.rows.now }
-        ensures held { Holds R.Row.kind text.now self.new.len self.new.rows.now }
+        requires own { Ordered R.Row.kind text.now self.old }
+        requires others { Ordered R.Row.kind text.now other.now }
+        ensures after { Removes R.Row.kind text.now other.now self.old self.new }
+        ensures held { Ordered R.Row.kind text.now self.new }
         ensures lender { self.new.rows.ghost_name ≡ self.old.rows.ghost_name }
     {
-        let n = self.len;
-        let k = sift(self.rows, n, text, &other.rows[0..other.len]);
-        wipe(self.rows, k);
-        self.len = k;
+        let kept = sift(&mut self.rows[..self.len], text, other);
+        self.rows[kept..].fill(R::default());
+        self.len = kept;
     }
 }

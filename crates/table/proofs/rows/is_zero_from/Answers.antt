@@ -1,13 +1,15 @@
-use Rattle.std.proofs.Common.{refl, arith}
-use Rattle.std.proofs.lemmas.Bool.{both_ways, false≢true}
-use Rattle.table.proofs.Zeros.{zero_there, zeros_all, zeros_more}
+use Rattle.std.proofs.Common.{drop, rules}
+use Rattle.std.proofs.lemmas.Iterator.{YieldsList-from_slice}
+use Rattle.std.proofs.lemmas.Iterator.Adapters.{YieldsList-from_skip}
+use Rattle.std.proofs.lemmas.Iterator.Search.{all_from_yields_List}
+use Rattle.std.proofs.lemmas.List.{length-drop}
+use borrow.Author.Tests.{tests}
+use Rattle.table.proofs.Zeros.{zeros_by_all}
 use Rattle.table.proofs.rows.is_zero_from.Goals as goal
 
-pub returns-then-not-is_none : goal.returns-then-not-is_none
-returns-then-not-is_none g c = ((λ e. absurd (false≢true e)), λ e. absurd (both_ways _ c.if-not-is_none.true (c.is_none.ensures.1 (zero_there g.R.Row.kind.zero c.args.rows.now c.args.from c.loop-i.i c.index-rows-i.result (omega arith) (omega arith) c.index-rows-i.is e))))
-
-pub loop-i-preserved : goal.loop-i-preserved
-loop-i-preserved g c = zeros_more g.R.Row.kind.zero c.args.rows.now c.args.from c.loop-i.i c.index-rows-i.result (omega arith) c.index-rows-i.is (c.is_none.ensures.0 c.if-not-is_none.false) c.loop-i.invariant
-
 pub returns : goal.returns
-returns g c = ((λ _. zeros_all g.R.Row.kind.zero c.args.rows.now c.args.from c.loop-i.i c.loop-i-test.false c.loop-i.invariant), λ _. refl)
+returns g c =
+    let eq = g.R.PartialEq.eq in
+    let rows = c.args.rows.now in
+    let e = all_from_yields_List (λ x. eq x c.default-zero.result) _ _ _ c.all.ensures.ran (YieldsList-from_skip c.args.from (YieldsList-from_slice rows cc) c.skip.ensures.count) (λ x b q k. search (rules, tests)) in
+    zeros_by_all eq g.met.R.Row.same g.met.R.Eq.laws.refl g.R.Row.kind.zero c.default-zero.result (drop c.args.from rows) c.all.result e (g.met.R.Row.zero c.default-zero.result c.default-zero.ensures) _ (length-drop c.args.from rows)

@@ -1,19 +1,16 @@
-use Rattle.std.proofs.Common.{Ok, refl}
-use Rattle.table.proofs.Inserts.{stays}
-use Rattle.table.proofs.Tables.{holds_inserted, insert_shape, inserted_is, within}
+use Rattle.std.proofs.Common.{refl}
+use Rattle.std.proofs.lemmas.List.{set-get_or}
+use Rattle.table.proofs.Entered.{at_new_place, in_its_place}
 use Rattle.table.proofs.table.OrderedTable.insert.Goals as goal
 
-pub enter-requires : goal.enter-requires
-enter-requires g c = (within g.R.Row.kind g.met.R.Row.total c.args.text.now c.args.row c.args.self.now.len c.args.self.now.rows.now c.requires c.in-Err.i c.in-Err.ensures.place, c.requires.rest)
-
-pub returns-in-Ok : goal.returns-in-Ok
-returns-in-Ok g c = record {
-  after = stays g.R.Row.kind.zero c.args.self.now.len c.args.self.now.rows.now c.requires.rest c.args.row _ c.in-Ok.field-0 (insert_shape g.R.Row.kind g.met.R.Row.total c.args.text.now c.args.row c.args.self.now.len c.args.self.now.rows.now c.requires (Ok c.in-Ok.field-0) c.in-Ok.ensures.place);
-  held = c.requires;
-  lender = refl;
-}
+pub returns-in-Ok-clause-after : goal.returns-in-Ok-clause-after
+returns-in-Ok-clause-after g c =
+    let i = c.in-Ok.field-0 in
+    let stored = in_its_place (λ r x. x) c.requires g.met.R.Row.total (λ r x e. refl) c.args.row i c.in-Ok.ensures.place c.in-Ok.ensures.within in
+    let h = stored.0 in
+    rw (set-get_or c.args.self.now.rows.now i c.args.row) at h
 
 pub returns-in-Err : goal.returns-in-Err
 returns-in-Err g c =
-    let h = inserted_is g.R.Row.kind g.met.R.Row.total c.args.text.now c.args.row c.args.self.now.len c.args.self.now.rows.now c.requires c.enter.result c.enter.new.self.len c.enter.new.self.rows.now c.in-Err.i c.in-Err.ensures.place c.enter.ensures.after in
-    record { after = h; held = holds_inserted g.R.Row.kind g.met.R.Row.total c.args.text.now c.args.row c.args.self.now.len c.args.self.now.rows.now c.requires c.enter.result c.enter.new.self.len c.enter.new.self.rows.now h; lender = c.enter.ensures.lender }
+    let grown = at_new_place (λ r x. x) c.requires g.met.R.Row.total (λ r x e. refl) c.args.row c.in-Err.i c.in-Err.ensures.place c.enter.result c.enter.new.self.len c.enter.new.self.rows.now c.enter.ensures.after in
+    record { after = grown.0; held = grown.1; lender = c.enter.ensures.lender }

@@ -1,29 +1,19 @@
-use Rattle.std.proofs.Common.{◌≡◌, ◌≤◌, map, length, take, is_err, sym, refl, ap, ◌∙◌, subst, arith}
-use native.Mathlib.Nat.{sub-zero}
-use Rattle.table.specs.Table.{place, without, InOrder, Left}
-use Rattle.table.proofs.Inserts.{ordered_kept}
-use Rattle.table.proofs.Removes.{left_is, take_left, rest_left}
+use Rattle.std.proofs.Common.{map, take, is_err, ◌∙◌, arith}
+use Rattle.std.proofs.lemmas.List.{length-take-le}
+use Rattle.table.specs.Table.{place}
+use Rattle.table.proofs.Removes.{holds_kept, left_by}
 use Rattle.table.proofs.table.OrderedTable.remove_all.Goals as goal
 
-pub returns : goal.returns
-returns g c =
-    let o = g.R.Row.kind.order in
-    let z = g.R.Row.kind.zero in
-    let key = g.R.Row.kind.key c.args.text.now in
+pub returns-clause-after : goal.returns-clause-after
+returns-clause-after g c =
     let n = c.args.self.now.len in
     let rows = c.args.self.now.rows.now in
-    let others = c.args.other.now.rows.now in
-    let m = c.args.other.now.len in
-    let ys = without o key (take m others) (take n rows) in
-    let k = c.sift-k.result in
-    let front : take k c.sift-k.new.rows ≡ ys = c.sift-k.ensures.front ∙ ap (λ q. without o key (take q others) (take n rows)) (sub-zero m) in
-    let h : Left z (length rows) ys k c.wipe.new.rows = left_is z rows c.sift-k.new.rows c.wipe.new.rows ys k n c.sift-k.ensures.within c.requires.own.rest.fits c.sift-k.auto.rows front c.wipe.ensures in
-    let room : length ys ≤ length rows = omega (arith, h.len_is, c.sift-k.ensures.within, c.requires.own.rest.fits) in
-    record {
-      after = h;
-      held = record {
-        ordered = subst (InOrder o key) (sym (take_left z (length rows) ys k c.wipe.new.rows room h)) (ordered_kept o key g.met.R.Row.total (λ r. is_err (place o (key r) (map key (take m others)))) (take n rows) c.requires.own.ordered);
-        rest = rest_left z (length rows) ys k c.wipe.new.rows room h;
-      };
-      lender = refl;
-    }
+    let d = c.default.result in
+    let fits = c.requires.own.rest.fits in
+    left_by rows c.sift-kept.new.rows _ c.fill.new.self n c.sift-kept.result g.R.Row.kind.zero d fits (c.sift-kept.auto.rows ∙ length-take-le n rows fits) (omega arith) c.sift-kept.ensures.front (c.fill.ensures.after (g.met.R.Row.clones d).1) (g.met.R.Row.zero d c.default.ensures)
+
+pub returns-clause-held : goal.returns-clause-held
+returns-clause-held g c =
+    let key = g.R.Row.kind.key c.args.text.now in
+    let others = take c.args.other.now.len c.args.other.now.rows.now in
+    holds_kept c.requires.own (λ r. is_err (place g.R.Row.kind.order (key r) (map key others))) _ _ (returns-clause-after g c)
