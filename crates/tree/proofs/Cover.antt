@@ -1,5 +1,7 @@
 -- Rows that each lie in a child of the row that encloses them have lawful ends.
-use Rattle.std.proofs.Common.{◌≡◌, ℕ, zero, suc, ◌+◌, ◌<◌, ◌≤◌, min, List, length, ap, ◌∙◌, subst, ⊎_elim, arith}
+use Rattle.std.proofs.Common.{◌≡◌, ℕ, zero, suc, ◌+◌, ◌<◌, ◌≤◌, ◌⊎◌, inl, inr, min, List, length, Some, None, Option, ap, ◌∙◌, subst, ⊎_elim, arith, below_more}
+use Rattle.std.specs.Prelude.{MatchOption}
+use Rattle.std.specs.Option.{unwrap_or}
 use Rattle.std.proofs.lemmas.Bool.{cases_lt}
 use Rattle.tree.specs.declared.row.Row.{Row}
 use Rattle.tree.specs.Forest.{end_at, LawfulEnd}
@@ -29,3 +31,36 @@ module _ (rs : List Row) where
           within = λ i e. within_by j i j h (omega arith) e.0 e.1;
           whole = λ z. ap (end_at rs) z ∙ w;
         }
+
+  -- the rows below j are looked at, and none below `limit` is known to be unlawful
+  pub record Looked (j limit : ℕ) : Type 0 where
+    pub reached : j ≤ limit
+    pub in_rows : limit ≤ length rs
+    pub unlawful : limit < length rs → LawfulEnd rs limit → ⊥
+    pub above : (i : ℕ) → i < j → i < end_at rs i
+    pub covered : (i : ℕ) → i < j → Covered rs i (min (end_at rs i) limit)
+
+  pub lawful_to : (j limit : ℕ) → Looked j limit → end_at rs 0 ≡ length rs → (i : ℕ) → i < j → LawfulEnd rs i
+  lawful_to j limit l w = lawful_below j (λ i h. covered_up_to i _ _ (omega (arith, l.reached)) (l.covered i h)) w l.above
+
+  pub offends : (j limit : ℕ) → Looked j limit → j < length rs → (j ≡ limit) ⊎ (end_at rs j ≤ j) → LawfulEnd rs j → ⊥
+  offends j limit l h (inl e) s = l.unlawful (omega arith) (subst (LawfulEnd rs) e s)
+  offends j limit l h (inr n) s = omega (arith, s.above)
+
+  pub look : (j limit : ℕ) (o : Option ℕ) → Looked j limit → j < limit → j < end_at rs j → MatchOption o (Covered rs j (min (end_at rs j) limit)) (λ c. (j < c) × (c < limit) × (LawfulEnd rs c → ⊥) × Covered rs j (min (end_at rs j) c)) → Looked (j + 1) (unwrap_or o limit)
+  look j limit None l h up m =
+      record {
+        reached = omega arith;
+        in_rows = l.in_rows;
+        unlawful = l.unlawful;
+        above = below_more _ _ l.above up;
+        covered = below_more _ _ l.covered m;
+      }
+  look j limit (Some c) l h up m =
+      record {
+        reached = omega arith;
+        in_rows = omega (arith, l.in_rows);
+        unlawful = λ k. m.2;
+        above = below_more _ _ l.above up;
+        covered = below_more _ _ (λ i k. covered_up_to i _ _ (omega arith) (l.covered i k)) m.3;
+      }

@@ -1,56 +1,77 @@
--- The children of a row, tested one after the other.
-use Rattle.std.proofs.Common.{◌≡◌, ℕ, suc, ◌+◌, ◌<◌, ◌≤◌, Bool, true, false, not, ◌&&◌, List, length, is_some, Some, None, Option, sym, refl, ap, ◌∙◌, add-zero, arith}
-use Rattle.kinds.specs.declared.shape.Group.{Group}
-use Rattle.kinds.specs.Shape.{has, first_child, later_child, last_child}
+-- The children of a row, tested place by place.
+use Rattle.std.proofs.Common.{◌≡◌, ℕ, ◌+◌, ◌<◌, ◌≤◌, Bool, true, false, List, [], ◌∷◌, length, get_or, Some, None, Option, sym, refl, ap, ◌∙◌, subst, true≢false, arith}
+use Rattle.std.specs.Bool.{MatchBool}
+use Rattle.std.specs.Iterator.{AlwaysYields}
+use Rattle.std.specs.List.{AllWithin, HoldsAt, enumerate_from}
+use Rattle.std.proofs.lemmas.Iterator.{YieldsList}
+use Rattle.std.proofs.lemmas.List.FromFn.{get_or-enumerate_from, length-enumerate_from}
+use Rattle.kinds.specs.Shape.{has}
+use Rattle.tree.specs.declared.child_rows.ChildRows.{ChildRows}
 use Rattle.tree.specs.declared.row.Row.{Row}
-use Rattle.tree.specs.Forest.{row_at, children, siblings, since, Under}
-use Rattle.tree.specs.Shaped.{kinds_of, none_left, group_for, each_fits, may_have, children_fit}
+use Rattle.tree.specs.Block.{rows_of}
+use Rattle.tree.specs.ChildRows.{GivesRow, from, rest, still}
+use Rattle.tree.specs.Forest.{row_at}
+use Rattle.tree.specs.Shaped.{children_fit, group_at, kinds_of, may_have}
+use Rattle.tree.proofs.Positions.{children_fit_by_place}
+use Rattle.tree.proofs.Sections.{counted}
 
--- so many children stand before this one
-abbrev pub Passed : List Row → Option ℕ → ℕ → Type 0
-Passed rs None n = n ≤ length rs
-Passed rs (Some c) n = n ≤ c
+from_most : (n : ℕ) (o : Option ℕ) → from n o ≤ n
+from_most n None = omega arith
+from_most n (Some c) = omega arith
 
--- the children from this one on fit, after so many others
-abbrev pub fit_from : List Row → ℕ → Row → Group → Option ℕ → ℕ → Bool
-fit_from rs j r group child n = each_fits r group (kinds_of (since rs j child)) && may_have r.kind (n + length (kinds_of (since rs j child)))
+pub still_few : (it : ChildRows) → still it ≤ 65536
+still_few it =
+    let few = it.rows.rows.few in
+    omega (arith, counted it.rows.rows.bytes.now, from_most (length (rows_of it.rows.rows)) it.next)
 
-pub passed_none : (rs : List Row) (child : Option ℕ) → Passed rs child 0
-passed_none rs None = omega arith
-passed_none rs (Some c) = omega arith
+abbrev pub kind_of : List Row → ℕ → ℕ
+kind_of rs c = (row_at rs c).kind
 
-pub passed_one : (rs : List Row) (c : ℕ) (next : Option ℕ) (n : ℕ) → c < length rs → n ≤ c → Under rs c next → Passed rs next (n + 1)
-passed_one rs c None n l h u = omega arith
-passed_one rs c (Some d) n l h u = omega arith
+kinds_come : (rs : List Row) (ks : List ℕ) (it : ChildRows) → kinds_of (rest it) ≡ ks → rows_of it.rows.rows ≡ rs → AlwaysYields GivesRow (kind_of rs) it ks
+kinds_come rs [] it e same = λ x after comes. let w = sym (ap kinds_of comes.first) ∙ e in absurd (cc)
+kinds_come rs (k ∷ ks) it e same = (
+  (λ after ends. let w = sym (ap kinds_of ends.0) ∙ e in absurd (cc)),
+  λ x after comes.
+      let w : kind_of (rows_of it.rows.rows) x ∷ kinds_of (rest after) ≡ k ∷ ks = sym (ap kinds_of comes.first) ∙ e in
+      let here : kind_of (rows_of it.rows.rows) x ≡ k = cc in
+      let later : kinds_of (rest after) ≡ ks = cc in
+      (ap (λ rs. kind_of rs x) (sym same) ∙ here, kinds_come rs ks after later (ap (λ r. rows_of r.rows) comes.rows ∙ same)),
+)
 
-pub fit_start : (rs : List Row) (j : ℕ) (r : Row) (group : Group) (child : Option ℕ) → group ≡ first_child r.kind r.mark → children rs j ≡ since rs j child → children_fit r (kinds_of (children rs j)) ≡ fit_from rs j r group child 0
-fit_start rs j r group child g e =
-    let ks = kinds_of (since rs j child) in
-    let m : length ks ≡ 0 + length ks = omega arith in
-    ap (λ f. children_fit r (kinds_of f)) e ∙ ap (λ h. each_fits r h ks && may_have r.kind (length ks)) (sym g) ∙ ap (λ n. each_fits r group ks && may_have r.kind n) m
+pub kinds_listed : (rs : List Row) (ks : List ℕ) (it : ChildRows) → rows_of it.rows.rows ≡ rs → kinds_of (rest it) ≡ ks → YieldsList GivesRow (kind_of rs) it ks
+kinds_listed rs ks it same e = record { runs = kinds_come rs ks it e same }
 
-pub fit_end : (rs : List Row) (j : ℕ) (r : Row) (group : Group) (child : Option ℕ) (n : ℕ) → child ≡ None → fit_from rs j r group child n ≡ may_have r.kind n
-fit_end rs j r group child n e = ap (λ o. fit_from rs j r group o n) e ∙ ap (may_have r.kind) (add-zero n)
+not_true : (b : Bool) → (b ≡ true → ⊥) → false ≡ b
+not_true true h = absurd (h refl)
+not_true false h = refl
 
-last_child_lem : (rs : List Row) (j : ℕ) (next : Option ℕ) (b : Bool) → is_some next ≡ not b → none_left (kinds_of (since rs j next)) ≡ b
-last_child_lem rs j None true e = refl
-last_child_lem rs j None false e = sym e
-last_child_lem rs j (Some c) true e = sym e
-last_child_lem rs j (Some c) false e = refl
+-- the test of the child at a place, of this kind
+abbrev pub Passes : Row → ℕ → Bool → ℕ × ℕ → Type 0
+Passes r n b x = has (group_at r x.0 n) x.1 ≡ b
 
--- one child: whether it is the last is b, and the kind's group of last children is last
-module _ (rs : List Row) (j c : ℕ) (r : Row) (group later : Group) (last : Option Group) (next : Option ℕ) (b : Bool) (n kind : ℕ)
-    (e : siblings rs c j ≡ since rs j next) (is_last : is_some next ≡ not b) (of-last : last ≡ last_child r.kind) (of-later : later ≡ later_child r.kind r.mark) (of-kind : kind ≡ (row_at rs c).kind) where
-  abbrev ks : List ℕ
-  ks = kinds_of (since rs j next)
+passes_at : (r : Row) (n : ℕ) (ks : List ℕ) (p : ℕ) (b : Bool) → p < length ks → Passes r n b (get_or (enumerate_from 0 ks) p (0, 0)) → has (group_at r p n) (get_or ks p 0) ≡ b
+passes_at r n ks p b h t =
+    let z : 0 + p ≡ p = omega arith in
+    subst (λ q. has (group_at r q n) (get_or ks p 0) ≡ b) z (subst (Passes r n b) (get_or-enumerate_from 0 ks p (0, 0) h) t)
 
-  one_more : fit_from rs j r group (Some c) n ≡ ((has (group_for last group b) kind && each_fits r later ks) && may_have r.kind ((n + 1) + length ks))
-  one_more =
-      let k : kinds_of (siblings rs c j) ≡ ks = ap kinds_of e in
-      let m : n + suc (length ks) ≡ (n + 1) + length ks = omega arith in
-      let b-is = last_child_lem rs j next b is_last in
-      ap (λ ls. (has (group_for (last_child r.kind) group (none_left ls)) (row_at rs c).kind && each_fits r (later_child r.kind r.mark) ls) && may_have r.kind (n + suc (length ls))) k
-      ∙ (λ i. (has (group_for (sym of-last i) group (b-is i)) (sym of-kind i) && each_fits r (sym of-later i) ks) && may_have r.kind (m i))
+-- children that a row may have fit it where each passes the test of its place
+pub all_fit : (r : Row) (n : ℕ) (ks : List ℕ) (b : Bool) → n ≡ length ks → may_have r.kind n ≡ true → MatchBool b (AllWithin (Passes r n true) (enumerate_from 0 ks) 0 (length (enumerate_from 0 ks))) ((k : ℕ) × (k < length (enumerate_from 0 ks)) × HoldsAt (Passes r n false) (enumerate_from 0 ks) k) → b ≡ children_fit r ks
+all_fit r n ks true e m all =
+    let l = length-enumerate_from 0 ks in
+    sym
+    ((children_fit_by_place r ks).1
+    (subst (λ n. may_have r.kind n ≡ true) e m, λ p h. subst (λ n. has (group_at r p n) (get_or ks p 0) ≡ true) e (passes_at r n ks p true h (all p (0, 0) (omega arith) (omega arith)))))
+all_fit r n ks false e m (k, l, fails) =
+    let h : k < length ks = omega (arith, length-enumerate_from 0 ks) in
+    not_true (children_fit r ks)
+    (λ yes. true≢false (sym (subst (λ n. has (group_at r k n) (get_or ks k 0) ≡ true) (sym e) (((children_fit_by_place r ks).0 yes).1 k h)) ∙ passes_at r n ks k false h (fails (0, 0))))
 
-  pub child_fits : true ≡ has (group_for last group b) kind → fit_from rs j r group (Some c) n ≡ fit_from rs j r later next (n + 1)
-  child_fits t = one_more ∙ ap (λ b. (b && each_fits r later ks) && may_have r.kind ((n + 1) + length ks)) (sym t)
+pub none_fit : (r : Row) (n : ℕ) (ks : List ℕ) → n ≡ length ks → may_have r.kind n ≡ false → false ≡ children_fit r ks
+none_fit r n ks e m = not_true (children_fit r ks) (λ yes. true≢false (sym ((children_fit_by_place r ks).0 yes).0 ∙ sym (ap (may_have r.kind) e) ∙ m))
+
+-- a row under another name of its kind
+abbrev pub named : ℕ → Row → Row
+named kind r = record { kind = kind; mark = r.mark; offset = r.offset; length = r.length; end = r.end }
+
+pub named_is : (kind : ℕ) (r s : Row) → kind ≡ s.kind → r ≡ s → named kind r ≡ s
+named_is kind r s k e = λ i. record { kind = k i; mark = (e i).mark; offset = (e i).offset; length = (e i).length; end = (e i).end }

@@ -3,9 +3,11 @@ mod Cover
 pub mod Grown
 mod Deepest
 mod Fits
-pub mod Standing
+mod Found
 mod Verdicts
+mod Passes
 pub mod Rising
 pub mod Direct
 mod Positions
 pub mod Split
+mod KnownKinds

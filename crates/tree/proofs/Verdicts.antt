@@ -1,10 +1,9 @@
 -- A block has one verdict, and it is without a fault exactly where the block is lawful.
-use Rattle.std.proofs.Common.{◌≡◌, ℕ, List, Some, None, Option, refl, ap, subst, ⊎_elim, arith}
+use Rattle.std.proofs.Common.{◌≡◌, ℕ, List, Some, None, Option, refl, sym, ap, ⊎_elim, arith}
 use Rattle.std.proofs.lemmas.Bool.{cases_lt}
 use Rattle.tree.specs.First.{First}
 use Rattle.fault.specs.declared.Fault.{Fault}
-use Rattle.tree.specs.declared.refusal.TreeFault.{TreeFault}
-use Rattle.tree.specs.Verdict.{Verdict, accepted, bad_layout, bad_end, bad_depth, bad_shape, bad_text, Lawful, described, tree_fault, Ends, Depths, Shapes, Texts, OneVerdict}
+use Rattle.tree.specs.Verdict.{Verdict, accepted, bad_layout, bad_end, bad_depth, bad_shape, bad_text, Lawful, tree_fault, Ends, Depths, Shapes, Texts, OneVerdict}
 
 first_none : (R : ℕ → Type 0) (n k : ℕ) → First R n None → First R n (Some k) → ⊥
 first_none R n k all f = f.1 (all k f.0)
@@ -14,9 +13,6 @@ first_same R n k l a b =
     ⊎_elim (λ h. absurd (a.1 (b.2 k h))) (λ h. ⊎_elim (λ g. absurd (b.1 (a.2 l g))) (λ g. omega arith) (cases_lt l k)) (cases_lt k l)
 
 module _ (m : ℕ) (block : List ℕ) where
-  lawful : Verdict m block None → Lawful block
-  lawful (accepted l) = l
-
   refuted : (f : Fault) → Lawful block → Verdict m block (Some f) → ⊥
   refuted _ l (bad_layout unlawful) = unlawful l.layout
   refuted _ l (bad_end k _ first) = first.1 (l.ends k first.0)
@@ -24,45 +20,33 @@ module _ (m : ℕ) (block : List ℕ) where
   refuted _ l (bad_shape k _ _ _ first) = first.1 (l.shapes k first.0)
   refuted _ l (bad_text k _ _ _ _ first) = first.1 (l.texts k first.0)
 
-  pub accepts : (o : Option TreeFault) → Verdict m block (described o) → Lawful block → o ≡ None
-  accepts None v l = refl
-  accepts (Some f) v l = absurd (refuted _ l v)
-
-  pub lawful_from : (o : Option TreeFault) → Verdict m block (described o) → o ≡ None → Lawful block
-  lawful_from o v e = lawful (subst (λ p. Verdict m block (described p)) e v)
+  accepted_only : (a : Option Fault) → Lawful block → Verdict m block a → None ≡ a
+  accepted_only None l v = refl
+  accepted_only (Some f) l v = absurd (refuted f l v)
 
   one : (a b : Option Fault) → Verdict m block a → Verdict m block b → a ≡ b
-  one _ _ (accepted l) (accepted l') = refl
-  one _ _ (accepted l) (bad_layout unlawful') = absurd (refuted _ l (bad_layout unlawful'))
-  one _ _ (accepted l) (bad_end k' y' f') = absurd (refuted _ l (bad_end k' y' f'))
-  one _ _ (accepted l) (bad_depth k' y' e' f') = absurd (refuted _ l (bad_depth k' y' e' f'))
-  one _ _ (accepted l) (bad_shape k' y' e' d' f') = absurd (refuted _ l (bad_shape k' y' e' d' f'))
-  one _ _ (accepted l) (bad_text k' y' e' d' h' f') = absurd (refuted _ l (bad_text k' y' e' d' h' f'))
-  one _ _ (bad_layout unlawful) (accepted l') = absurd (refuted _ l' (bad_layout unlawful))
+  one _ _ (accepted l) w = accepted_only _ l w
+  one _ _ v (accepted l) = sym (accepted_only _ l v)
   one _ _ (bad_layout unlawful) (bad_layout unlawful') = refl
   one _ _ (bad_layout unlawful) (bad_end k' y' f') = absurd (unlawful y')
   one _ _ (bad_layout unlawful) (bad_depth k' y' e' f') = absurd (unlawful y')
   one _ _ (bad_layout unlawful) (bad_shape k' y' e' d' f') = absurd (unlawful y')
   one _ _ (bad_layout unlawful) (bad_text k' y' e' d' h' f') = absurd (unlawful y')
-  one _ _ (bad_end k y f) (accepted l') = absurd (refuted _ l' (bad_end k y f))
   one _ _ (bad_end k y f) (bad_layout unlawful') = absurd (unlawful' y)
   one _ _ (bad_end k y f) (bad_end k' y' f') = ap (λ k. Some (tree_fault 2 m k)) (first_same (Ends block) _ k k' f f')
   one _ _ (bad_end k y f) (bad_depth k' y' e' f') = absurd (first_none (Ends block) _ k e' f)
   one _ _ (bad_end k y f) (bad_shape k' y' e' d' f') = absurd (first_none (Ends block) _ k e' f)
   one _ _ (bad_end k y f) (bad_text k' y' e' d' h' f') = absurd (first_none (Ends block) _ k e' f)
-  one _ _ (bad_depth k y e f) (accepted l') = absurd (refuted _ l' (bad_depth k y e f))
   one _ _ (bad_depth k y e f) (bad_layout unlawful') = absurd (unlawful' y)
   one _ _ (bad_depth k y e f) (bad_end k' y' f') = absurd (first_none (Ends block) _ k' e f')
   one _ _ (bad_depth k y e f) (bad_depth k' y' e' f') = ap (λ k. Some (tree_fault 3 m k)) (first_same (Depths block) _ k k' f f')
   one _ _ (bad_depth k y e f) (bad_shape k' y' e' d' f') = absurd (first_none (Depths block) _ k d' f)
   one _ _ (bad_depth k y e f) (bad_text k' y' e' d' h' f') = absurd (first_none (Depths block) _ k d' f)
-  one _ _ (bad_shape k y e d f) (accepted l') = absurd (refuted _ l' (bad_shape k y e d f))
   one _ _ (bad_shape k y e d f) (bad_layout unlawful') = absurd (unlawful' y)
   one _ _ (bad_shape k y e d f) (bad_end k' y' f') = absurd (first_none (Ends block) _ k' e f')
   one _ _ (bad_shape k y e d f) (bad_depth k' y' e' f') = absurd (first_none (Depths block) _ k' d f')
   one _ _ (bad_shape k y e d f) (bad_shape k' y' e' d' f') = ap (λ k. Some (tree_fault 4 m k)) (first_same (Shapes block) _ k k' f f')
   one _ _ (bad_shape k y e d f) (bad_text k' y' e' d' h' f') = absurd (first_none (Shapes block) _ k h' f)
-  one _ _ (bad_text k y e d h f) (accepted l') = absurd (refuted _ l' (bad_text k y e d h f))
   one _ _ (bad_text k y e d h f) (bad_layout unlawful') = absurd (unlawful' y)
   one _ _ (bad_text k y e d h f) (bad_end k' y' f') = absurd (first_none (Ends block) _ k' e f')
   one _ _ (bad_text k y e d h f) (bad_depth k' y' e' f') = absurd (first_none (Depths block) _ k' d f')

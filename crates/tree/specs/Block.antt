@@ -3,6 +3,7 @@ use Rattle.std.specs.Prelude.{◌≡◌, ℕ, ◌+◌, ◌*◌, ◌/◌, ◌%◌
 use Rattle.std.specs.List.{range_with_len}
 use Rattle.text.specs.Number.{le32}
 use Rattle.text.specs.Place.{stretch}
+use Rattle.tree.specs.declared.layout.Sections.{Sections}
 use Rattle.tree.specs.declared.row.Row.{Row}
 use Rattle.tree.specs.declared.row.Rows.{Rows}
 
@@ -38,8 +39,12 @@ row_in section o = record { kind = le32 section o; mark = le32 section (o + 4); 
 unfoldable pub rows_in : List ℕ → ℕ → List Row
 rows_in section count = map (λ j. row_in section (20 * j)) (range_with_len 0 count)
 
+-- rows from the twenty bytes of each
+unfoldable pub rows_from : List (List ℕ) → List Row
+rows_from rows = map (λ bytes. row_in bytes 0) rows
+
 abbrev pub rows_of : Rows → List Row
-rows_of r = rows_in r.section.now r.count
+rows_of r = rows_from r.bytes.now
 
 -- the rows and the text of a block
 abbrev pub rows : List ℕ → List Row
@@ -47,3 +52,9 @@ rows block = rows_in (stretch block (rows_offset block) (rows_length block)) (ro
 
 abbrev pub text : List ℕ → List ℕ
 text block = stretch block (text_offset block) (text_length block)
+
+-- the sections of a block with a lawful layout
+pub record SectionsOf (block : List ℕ) (s : Sections) : Type 0 where
+  pub layout : LawfulLayout block
+  pub same_rows : rows_of s.rows ≡ rows block
+  pub same_text : s.text.now ≡ text block

@@ -1,3 +1,5 @@
+pub mod Children
+pub mod ChildRows
 pub mod Forest
 pub mod Block
 pub mod First

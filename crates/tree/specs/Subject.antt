@@ -9,7 +9,7 @@ abbrev pub tree_module : Tree → ℕ
 tree_module t = t.«module»
 
 abbrev pub tree_rows : Tree → List Row
-tree_rows t = rows_of t.rows
+tree_rows t = rows_of t.rows.rows
 
 abbrev pub tree_text : Tree → List ℕ
 tree_text t = t.text.now

@@ -1,5 +1,5 @@
 -- The check of a tree block: when it is accepted, and which refusal it gets otherwise.
-use Rattle.std.specs.Prelude.{◌≡◌, ℕ, List, length, Some, None, Option}
+use Rattle.std.specs.Prelude.{◌≡◌, ℕ, List, length, Some, None, Option, Ok, Err, Result, codes}
 use Rattle.fault.specs.declared.Fault.{Fault}
 use Rattle.fault.specs.declared.Layer.TheVariants.{Tree}
 use Rattle.tree.specs.declared.refusal.TreeFault.{TreeFault}
@@ -22,6 +22,14 @@ describe (End «module» row) = tree_fault 2 «module» row
 describe (Depth «module» row) = tree_fault 3 «module» row
 describe (Shape «module» row) = tree_fault 4 «module» row
 describe (Text «module» row) = tree_fault 5 «module» row
+
+-- what each refusal says
+abbrev pub reason_words : TreeFault → List ℕ
+reason_words (Layout m) = codes "the block's size or its sections are not lawful"
+reason_words (End m row) = codes "the row at this place has an unlawful end"
+reason_words (Depth m row) = codes "more than 256 rows enclose the row at this place"
+reason_words (Shape m row) = codes "the row at this place does not fit the table of kinds"
+reason_words (Text m row) = codes "the text of the row at this place is not lawful"
 
 abbrev pub described : Option TreeFault → Option Fault
 described None = None
@@ -64,3 +72,8 @@ pub data Verdict (m : ℕ) (block : List ℕ) : Option Fault → Type 0 where
 -- one block has one verdict
 abbrev pub OneVerdict : Type 0
 OneVerdict = (m : ℕ) (block : List ℕ) (a b : Option Fault) → Verdict m block a → Verdict m block b → a ≡ b
+
+-- the refusal in an answer, if it is one
+abbrev pub fault_of : {A : Type 0} → Result A TreeFault → Option TreeFault
+fault_of (Ok t) = None
+fault_of (Err f) = Some f

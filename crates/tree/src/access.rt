@@ -1,5 +1,6 @@
 //! What a tree is asked: its rows, their children and siblings, their texts.
 ghost use Rattle.std.specs.Prelude.{◌≡◌, length};
+ghost use Rattle.kinds.specs.Number.{number};
 ghost use Rattle.tree.specs.Enclosure.{ChildrenAreEnclosedDirectly, ChildrenCarryTheirRows, ChildrenStandInOrder};
 ghost use Rattle.tree.specs.Forest.{Under, children, row_at, siblings, since};
 ghost use Rattle.tree.specs.Subject.{tree_module, tree_rows, tree_text};
@@ -7,6 +8,7 @@ ghost use Rattle.tree.specs.Texts.{text_at};
 
 use crate::row::Row;
 use crate::tree::Tree;
+use kinds::kind::Kind;
 
 impl<'a> Tree<'a> {
     /// The module that the tree belongs to.
@@ -20,14 +22,21 @@ impl<'a> Tree<'a> {
     pub fn count(&self) -> usize
         ensures { result ≡ length (tree_rows self.now) }
     {
-        self.rows.count
+        self.rows.rows.count()
     }
 
     /// Row j; a row of zeros past the rows.
     pub fn row(&self, j: usize) -> Row
         ensures { result ≡ row_at (tree_rows self.now) j }
     {
-        self.rows.row(j)
+        self.rows.rows.row(j)
+    }
+
+    /// The kind of row j; `Kind::Other` past the rows.
+    pub fn kind(&self, j: usize) -> Kind
+        ensures { number result ≡ (row_at (tree_rows self.now) j).kind }
+    {
+        Kind::try_from(self.row(j).kind).unwrap_or(Kind::Other)
     }
 
     /// The first child of row j.

@@ -3,9 +3,9 @@ ghost use Rattle.std.specs.Prelude.{◌≡◌, length, nat_lt};
 ghost use Rattle.tree.specs.Block.{rows_of};
 ghost use Rattle.tree.specs.Depth.{deep, Shallow};
 ghost use Rattle.tree.specs.First.{First};
-ghost use Rattle.tree.specs.Forest.{Nested, children};
+ghost use Rattle.tree.specs.Forest.{children};
 
-use crate::row::Rows;
+use crate::nested::NestedRows;
 
 const DEEPEST: u32 = 256;
 
@@ -16,34 +16,26 @@ fn is_too_deep(depth: u32) -> bool
     depth > DEEPEST
 }
 
-impl Rows<'_> {
+impl NestedRows<'_> {
     /// The first row under row j that more than 256 rows enclose, where `depth` rows enclose the children of row j.
     /// It calls itself once a level, and no further than the deepest level.
     fn first_deep_under(&self, j: usize, depth: u32) -> Option<usize>
-        requires { Nested (rows_of self.now) }
-        ensures { result ≡ deep depth (children (rows_of self.now) j) }
+        ensures { result ≡ deep depth (children (rows_of self.now.rows) j) }
     {
-        let end = self.end(j);
-        if end <= j {
-            return None;
-        }
-        let mut c = j + 1;
-        while c < end {
+        for c in self.children(j) {
             if is_too_deep(depth) {
                 return Some(c);
             }
             if let Some(k) = self.first_deep_under(c, depth + 1) {
                 return Some(k);
             }
-            c = self.end(c);
         }
         None
     }
 
     /// The first row that more than 256 rows enclose.
     pub(crate) fn first_deep(&self) -> Option<usize>
-        requires { Nested (rows_of self.now) }
-        ensures { First (Shallow (rows_of self.now)) (length (rows_of self.now)) result }
+        ensures { First (Shallow (rows_of self.now.rows)) (length (rows_of self.now.rows)) result }
     {
         self.first_deep_under(0, 1)
     }

@@ -1,50 +1,51 @@
 //! The ends of rows: each above its own number, and at most the end of every enclosing row.
-ghost use Rattle.std.specs.Prelude.{◌<◌, ◌≤◌, min, length};
+ghost use Rattle.std.specs.Prelude.{◌≡◌, ◌<◌, ◌≤◌, min, length, MatchOption, MatchResult, Some};
 ghost use Rattle.tree.specs.Block.{rows_of};
 ghost use Rattle.tree.specs.First.{First, Covered};
 ghost use Rattle.tree.specs.Forest.{LawfulEnd, end_at};
 
+use crate::nested::NestedRows;
 use crate::row::Rows;
 
-impl Rows<'_> {
-    /// The first child of row j, below `limit`, whose end is unlawful, or `limit`.
-    fn first_unlawful_child(&self, j: usize, limit: usize) -> usize
-        requires { (j < limit) × (limit ≤ length (rows_of self.now)) }
-        ensures most { result ≤ limit }
-        ensures past { j < result }
-        ensures unlawful { result < limit → LawfulEnd (rows_of self.now) result → ⊥ }
-        ensures covered { Covered (rows_of self.now) j (min (end_at (rows_of self.now) j) result) }
+impl<'a> Rows<'a> {
+    /// The first child of row j, below `limit`, whose end is unlawful.
+    fn first_unlawful_child(self, j: usize, limit: usize) -> Option<usize>
+        requires { (j < limit) × (limit ≤ length (rows_of self)) }
+        ensures { MatchOption result (Covered (rows_of self.entry) j (min (end_at (rows_of self.entry) j) limit))
+            (λ c. (j < c) × (c < limit) × (LawfulEnd (rows_of self.entry) c → ⊥) × Covered (rows_of self.entry) j (min (end_at (rows_of self.entry) j) c)) }
     {
         let end = self.end(j);
         let mut c = j + 1;
-        while c < end && c < limit {
+        // The rows are not known to be nested yet, so there is no iterator of the children.
+        while c < end.min(limit) {
             let next = self.end(c);
             if next <= c || next > end {
-                return c;
+                return Some(c);
             }
             c = next;
         }
-        limit
+        None
     }
 
-    /// The first row whose end is unlawful. Each row is looked at as the child of one row only, so this is linear.
-    pub(crate) fn first_unlawful_end(&self) -> Option<usize>
-        requires { 0 < length (rows_of self.now) }
-        ensures { First (LawfulEnd (rows_of self.now)) (length (rows_of self.now)) result }
+    /// The rows with lawful ends, or the first row whose end is unlawful. Each row is looked at as the child of one row
+    /// only, so this is linear.
+    pub(crate) fn nested(self) -> Result<NestedRows<'a>, usize>
+        ensures { MatchResult result (λ n. n.rows ≡ self.entry)
+            (λ row. First (LawfulEnd (rows_of self.entry)) (length (rows_of self.entry)) (Some row)) }
     {
-        let count = self.count;
+        let count = self.count();
         if self.end(0) != count {
-            return Some(0);
+            return Err(0);
         }
+        // No row before this one is known to be unlawful.
         let mut limit = count;
-        let mut j = 0;
-        while j < limit {
-            if self.end(j) <= j {
-                return Some(j);
+        for j in 0..count {
+            let end = self.end(j);
+            if j == limit || end <= j {
+                return Err(j);
             }
-            limit = self.first_unlawful_child(j, limit);
-            j += 1;
+            limit = self.first_unlawful_child(j, limit).unwrap_or(limit);
         }
-        if limit < count { Some(limit) } else { None }
+        Ok(NestedRows { rows: self })
     }
 }

@@ -1,22 +1,20 @@
 //! Children and siblings, by the ends of rows.
 ghost use Rattle.std.specs.Prelude.{◌≡◌};
+ghost use Rattle.std.specs.Iterator.{at_most};
 ghost use Rattle.tree.specs.Block.{rows_of};
-ghost use Rattle.tree.specs.Enclosure.{ChildrenAreEnclosedDirectly, ChildrenCarryTheirRows, ChildrenStandInOrder};
-ghost use Rattle.tree.specs.Forest.{Nested, Under, children, siblings, since};
+ghost use Rattle.tree.specs.ChildRows.{GivesRow, rest, still};
+ghost use Rattle.tree.specs.Forest.{Under, children, siblings, since};
 
-use crate::row::Rows;
+use crate::child_rows::ChildRows;
+use crate::nested::NestedRows;
 
-impl Rows<'_> {
+impl<'a> NestedRows<'a> {
     /// The first row that row j encloses.
     pub(crate) fn first_child(&self, j: usize) -> Option<usize>
-        requires { Nested (rows_of self.now) }
-        ensures is { children (rows_of self.now) j ≡ since (rows_of self.now) j result }
-        ensures under { Under (rows_of self.now) j result }
-        ensures direct { ChildrenAreEnclosedDirectly }
-        ensures ordered { ChildrenStandInOrder }
-        ensures carried { ChildrenCarryTheirRows }
+        ensures is { children (rows_of self.now.rows) j ≡ since (rows_of self.now.rows) j result }
+        ensures under { Under (rows_of self.now.rows) j result }
     {
-        let end = self.end(j);
+        let end = self.rows.end(j);
         if j < end && j + 1 < end {
             Some(j + 1)
         } else {
@@ -26,16 +24,42 @@ impl Rows<'_> {
 
     /// The sibling after row c among the children of row j.
     pub(crate) fn next_sibling(&self, c: usize, j: usize) -> Option<usize>
-        requires { Nested (rows_of self.now) }
-        ensures is { siblings (rows_of self.now) c j ≡ since (rows_of self.now) j result }
-        ensures under { Under (rows_of self.now) j result }
-        ensures later { Under (rows_of self.now) c result }
+        ensures is { siblings (rows_of self.now.rows) c j ≡ since (rows_of self.now.rows) j result }
+        ensures under { Under (rows_of self.now.rows) j result }
+        ensures later { Under (rows_of self.now.rows) c result }
     {
-        let next = self.end(c);
-        if j < c && c < next && next < self.end(j) {
+        let next = self.rows.end(c);
+        if j < c && c < next && next < self.rows.end(j) {
             Some(next)
         } else {
             None
         }
+    }
+
+    /// The numbers of the children of row j.
+    pub(crate) fn children(&self, j: usize) -> ChildRows<'a>
+        ensures rest { rest result ≡ children (rows_of self.now.rows) j }
+        ensures rows { result.rows ≡ self.now }
+        ensures parent { result.parent ≡ j }
+    {
+        ChildRows {
+            rows: *self,
+            parent: j,
+            next: self.first_child(j),
+        }
+    }
+}
+
+impl Iterator for ChildRows<'_> {
+    type Item = usize;
+
+    ghost next_gives = { GivesRow };
+
+    ghost remaining = { λ it. at_most (still it) };
+
+    fn next(&mut self) -> Option<usize> {
+        let row = self.next?;
+        self.next = self.rows.next_sibling(row, self.parent);
+        Some(row)
     }
 }

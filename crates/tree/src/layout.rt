@@ -1,17 +1,15 @@
 //! The header of a block: the places of its rows and of its text.
-ghost use Rattle.std.specs.Prelude.{◌≡◌, Decides};
-ghost use Rattle.tree.specs.Block.{LawfulLayout, rows_of, rows as block_rows, text as block_text};
+ghost use Rattle.std.specs.Prelude.{MatchOption};
+ghost use Rattle.tree.specs.Block.{LawfulLayout, SectionsOf};
 
 use crate::row::Rows;
-use text::{part, read_le32};
+use text::read_le32;
 
 const HEADER: usize = 16;
 
 const LONGEST_BLOCK: usize = 4_194_304;
 
-const ROW: usize = 20;
-
-const LONGEST_ROWS: usize = 1_310_720;
+const MOST_ROWS: usize = 65_536;
 
 /// The sections of a block.
 #[derive(Clone, Copy)]
@@ -20,46 +18,27 @@ pub(crate) struct Sections<'a> {
     pub(crate) text: &'a [u8],
 }
 
-/// Whether the block is neither too short nor too long, and its sections lie in it, one after the other.
-pub(crate) fn is_lawful_layout(block: &[u8]) -> bool
-    ensures { Decides result (LawfulLayout block.now) }
+/// The sections of a block, one after the other in it, or None where it is too short or too long, or they do not lie so.
+pub(crate) fn sections_of(block: &[u8]) -> Option<Sections<'_>>
+    ensures { MatchOption result (LawfulLayout block.now → ⊥) (SectionsOf block.now) }
 {
     if block.len() < HEADER || block.len() > LONGEST_BLOCK {
-        return false;
+        return None;
     }
     let rows_offset = read_le32(block, 0) as usize;
-    let rows_length = read_le32(block, 4) as usize;
+    let rows_end = rows_offset + read_le32(block, 4) as usize;
     let text_offset = read_le32(block, 8) as usize;
-    let text_length = read_le32(block, 12) as usize;
-    if rows_offset < HEADER
-        || rows_length == 0
-        || rows_length % ROW != 0
-        || rows_length > LONGEST_ROWS
-    {
-        return false;
+    let text_end = text_offset + read_le32(block, 12) as usize;
+    if rows_offset < HEADER || rows_end > text_offset {
+        return None;
     }
-    rows_offset + rows_length <= text_offset && text_offset + text_length <= block.len()
-}
-
-/// The sections of a block with a lawful layout.
-pub(crate) fn sections_of(block: &[u8]) -> Sections<'_>
-    requires { LawfulLayout block.now }
-    ensures rows { rows_of result.rows ≡ block_rows block.now }
-    ensures text { result.text.now ≡ block_text block.now }
-{
-    let rows_offset = read_le32(block, 0) as usize;
-    let rows_length = read_le32(block, 4) as usize;
-    let section = part(block, rows_offset, rows_length);
-    let text = part(
-        block,
-        read_le32(block, 8) as usize,
-        read_le32(block, 12) as usize,
-    );
-    Sections {
-        rows: Rows {
-            section,
-            count: rows_length / ROW,
-        },
+    let text = block.get(text_offset..text_end)?;
+    let (bytes, rest) = block.get(rows_offset..rows_end)?.as_chunks::<20>();
+    if bytes.is_empty() || bytes.len() > MOST_ROWS || !rest.is_empty() {
+        return None;
+    }
+    Some(Sections {
+        rows: Rows { bytes },
         text,
-    }
+    })
 }

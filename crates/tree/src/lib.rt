@@ -3,10 +3,14 @@
 
 mod access;
 mod check;
+mod child_rows;
 mod depth;
 mod ends;
 mod family;
 mod layout;
+mod nested;
+mod node;
+mod nodes;
 mod refusal;
 mod row;
 mod rows;
@@ -14,6 +18,7 @@ mod shapes;
 mod texts;
 mod tree;
 
+pub use node::{Children, Node};
 pub use refusal::TreeFault;
 pub use row::Row;
-pub use tree::{Checked, Tree};
+pub use tree::Tree;

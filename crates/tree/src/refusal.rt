@@ -1,8 +1,10 @@
 //! What a check refuses a block for. docs/FAULTS.md has the numbers.
-ghost use Rattle.std.specs.Prelude.{◌≡◌};
-ghost use Rattle.tree.specs.Verdict.{describe};
+ghost use Rattle.std.specs.Prelude.{◌≡◌, Some};
+ghost use Rattle.tree.specs.Verdict.{describe, reason_words};
 
 use fault::{Fault, Layer};
+use std::error::Error;
+use std::fmt;
 
 /// The refusal of a block, with the module that it belongs to and, but for the layout, the first row that offends.
 #[derive(Clone, Copy, PartialEq, Eq, Debug)]
@@ -14,12 +16,12 @@ pub enum TreeFault {
     Text { module: u32, row: usize },
 }
 
-impl TreeFault {
-    /// The number, the layer, the module and the place of the refusal.
-    pub fn fault(&self) -> Fault
-        ensures { result ≡ describe self.now }
-    {
-        let (number, module, place) = match *self {
+/// The number, the layer, the module and the place of the refusal.
+impl From<TreeFault> for Fault {
+    ghost from_gives = { λ refusal r. r ≡ describe refusal };
+
+    fn from(refusal: TreeFault) -> Self {
+        let (number, module, place) = match refusal {
             TreeFault::Layout { module } => (1, module, 0),
             TreeFault::End { module, row } => (2, module, row),
             TreeFault::Depth { module, row } => (3, module, row),
@@ -34,3 +36,20 @@ impl TreeFault {
         }
     }
 }
+
+/// What the refusal says, in words.
+impl fmt::Display for TreeFault {
+    ghost output = { λ x. Some (reason_words x) };
+
+    fn fmt<W: fmt::Write>(&self, f: &mut fmt::Formatter<W>) -> fmt::Result {
+        f.write_str(match self {
+            TreeFault::Layout { .. } => "the block's size or its sections are not lawful",
+            TreeFault::End { .. } => "the row at this place has an unlawful end",
+            TreeFault::Depth { .. } => "more than 256 rows enclose the row at this place",
+            TreeFault::Shape { .. } => "the row at this place does not fit the table of kinds",
+            TreeFault::Text { .. } => "the text of the row at this place is not lawful",
+        })
+    }
+}
+
+impl Error for TreeFault {}

@@ -1,8 +1,8 @@
-//! A row of a tree block, and the section that holds the rows.
-ghost use Rattle.std.specs.Prelude.{◌≤◌};
+//! A row of a tree block, and the rows that it holds.
+ghost use Rattle.std.specs.Prelude.{◌≤◌, length};
 
-/// The five numbers of a row: its kind, its mark, the place of its text in the text section, and the number of the row at which it ends.
-#[derive(Clone, Copy)]
+/// The five numbers of a row, as the block's format has them: its kind, its mark, the place of its text in the text section, and the number of the row at which it ends.
+#[derive(Clone, Copy, Default)]
 pub struct Row {
     pub kind: u32,
     pub mark: u32,
@@ -11,10 +11,9 @@ pub struct Row {
     pub end: u32,
 }
 
-/// The rows section of a block, and how many rows lie in it.
+/// The rows of a block, each in its twenty bytes.
 #[derive(Clone, Copy)]
 pub(crate) struct Rows<'a> {
-    pub(crate) section: &'a [u8],
-    pub(crate) count: usize,
-    ghost few: { count ≤ 65536 },
+    pub(crate) bytes: &'a [[u8; 20]],
+    ghost few: { length bytes.now ≤ 65536 },
 }

@@ -5,9 +5,9 @@ ghost use Rattle.tree.specs.First.{First};
 ghost use Rattle.tree.specs.Forest.{row_at};
 ghost use Rattle.tree.specs.Texts.{Inside, LawfulText, text_at};
 
-use crate::layout::Sections;
-use crate::row::Row;
-use kinds::shape::{Text, text_of};
+use crate::row::{Row, Rows};
+use kinds::kind::Kind;
+use kinds::shape::Text;
 use text::{is_utf8, is_wtf8, part};
 
 impl Row {
@@ -29,7 +29,7 @@ impl Row {
     fn is_lawful_text(&self, section: &[u8]) -> bool
         ensures { Decides result (LawfulText section.now self.now) }
     {
-        match text_of(self.kind) {
+        match Kind::try_from(self.kind).map_or(Text::Absent, |kind| kind.text()) {
             Text::Absent => self.offset == 0 && self.length == 0,
             Text::Utf8 => self.is_inside(section) && is_utf8(self.text_in(section)),
             Text::Wtf8 => self.is_inside(section) && is_wtf8(self.text_in(section)),
@@ -37,16 +37,11 @@ impl Row {
     }
 }
 
-impl Sections<'_> {
-    /// The first row whose text is unlawful.
-    pub(crate) fn first_unlawful_text(&self) -> Option<usize>
-        ensures { First (λ j. LawfulText self.now.text.now (row_at (rows_of self.now.rows) j)) (length (rows_of self.now.rows)) result }
+impl Rows<'_> {
+    /// The first row whose text, in a text section, is unlawful.
+    pub(crate) fn first_unlawful_text(&self, section: &[u8]) -> Option<usize>
+        ensures { First (λ j. LawfulText section.now (row_at (rows_of self.now) j)) (length (rows_of self.now)) result }
     {
-        for j in 0..self.rows.count {
-            if !self.rows.row(j).is_lawful_text(self.text) {
-                return Some(j);
-            }
-        }
-        None
+        (0..self.count()).find(|j| !self.row(*j).is_lawful_text(section))
     }
 }

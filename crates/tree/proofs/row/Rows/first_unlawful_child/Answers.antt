@@ -5,4 +5,4 @@ use Rattle.tree.proofs.row.Rows.first_unlawful_child.Goals as goal
 
 pub loop-c-preserved : goal.loop-c-preserved
 loop-c-preserved c =
-    (omega arith, rw c.end-next.ensures (covered_more (rows_of c.args.self.now) c.args.j c.loop-c.c (omega arith) c.loop-c.invariant.1 (omega arith)))
+    (omega arith, rw c.end-next.ensures (covered_more (rows_of c.args.self) c.args.j c.loop-c.c (omega arith) c.loop-c.invariant.1 (omega arith)))

@@ -1,9 +1,6 @@
-use Rattle.std.proofs.Common.{sym, ◌∙◌}
-use Rattle.tree.proofs.Sections.{row_in_lem, row_past}
+use Rattle.std.proofs.Common.{rules}
+use Rattle.tree.proofs.Sections.{row_read}
 use Rattle.tree.proofs.row.Rows.row.Goals as goal
 
-pub returns-then-j-self : goal.returns-then-j-self
-returns-then-j-self c = c.read_row.ensures ∙ sym (row_in_lem c.args.self.now.section.now c.args.self.now.count c.args.j c.if-j-self.true)
-
-pub returns-else-j-self : goal.returns-else-j-self
-returns-else-j-self c = sym (row_past c.args.self.now.section.now c.args.self.now.count c.args.j c.if-j-self.false)
+pub returns : goal.returns
+returns c = row_read c.args.self.now.bytes.now _ _ _ _ _ c.get.ensures.lookup c.map_or.ensures (search rules) (λ x h. search (rules, h))
