@@ -7,6 +7,11 @@ use Rattle.tree.specs.Forest.{Forest, children, nil, node, row_at}
 use Rattle.tree.proofs.Direct.{children_are_enclosed_directly, children_carry_their_rows, children_stand_in_order}
 use Rattle.findings.specs.Script.{FirstTellingChildDecides, Tells, first_shows, shows_module, shows_script}
 
+-- a row that stands at the top of a tree has no lower number than that from which they rise
+pub rising : (f : Forest) (from c : ℕ) → Rises from f → Stands c f → from ≤ c
+rising nil from c r s = absurd s
+rising (node j row kids siblings) from c r s = ⊎_elim (λ e. omega (arith, r.0)) (λ t. omega (arith, r.0, rising siblings (j + 1) c r.1 t)) s
+
 module _ (rs : List Row) where
   abbrev kind : ℕ → ℕ
   kind c = (row_at rs c).kind
@@ -21,10 +26,6 @@ module _ (rs : List Row) where
   silent true s rest n = absurd (n (inl refl))
   silent false true rest n = absurd (n (inr refl))
   silent false false rest n = refl
-
-  rising : (f : Forest) (from c : ℕ) → Rises from f → Stands c f → from ≤ c
-  rising nil from c r s = absurd s
-  rising (node j row kids siblings) from c r s = ⊎_elim (λ e. omega (arith, r.0)) (λ t. omega (arith, r.0, rising siblings (j + 1) c r.1 t)) s
 
   first : (f : Forest) (from c : ℕ) → Rises from f → Carries rs f → Stands c f → Tells rs c → ((i : ℕ) → Stands i f → i < c → Tells rs i → ⊥) → first_shows f ≡ not (shows_module (kind c))
   first nil from c r k s t before = absurd s

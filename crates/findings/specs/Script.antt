@@ -1,5 +1,5 @@
 -- The script test: whether a program is treated as a script.
-use Rattle.std.specs.Prelude.{◌≡◌, ℕ, ◌<◌, Bool, true, false, cond, not, ◌⊎◌, List, [], ◌∷◌, ◌==◌}
+use Rattle.std.specs.Prelude.{◌≡◌, ℕ, ◌<◌, Bool, true, false, cond, not, ◌⊎◌, List, [], ◌∷◌, ◌==◌, codes}
 use Rattle.findings.specs.declared.parsed_source.ProgramKind.{ProgramKind}
 use Rattle.findings.specs.declared.parsed_source.ProgramKind.TheVariants.{Module, Script}
 use Rattle.kinds.specs.Kinds.{«import», export_all, export_decl, export_default, export_named, ts_export_assignment, ts_import_equals}
@@ -7,6 +7,11 @@ use Rattle.kinds.specs.Shape.{among}
 use Rattle.tree.specs.declared.row.Row.{Row}
 use Rattle.tree.specs.Enclosure.{EnclosesDirectly}
 use Rattle.tree.specs.Forest.{Forest, Nested, nil, node, children, row_at}
+
+-- the word for what a program is
+abbrev pub kind_word : ProgramKind → List ℕ
+kind_word Module = codes "module"
+kind_word Script = codes "script"
 
 -- a child of these kinds shows a module
 abbrev pub shows_module : ℕ → Bool

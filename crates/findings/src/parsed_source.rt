@@ -1,11 +1,12 @@
 //! The program that a tree holds, and the script test.
-ghost use Rattle.std.specs.Prelude.{◌≡◌};
-ghost use Rattle.findings.specs.Script.{FirstTellingChildDecides, first_shows, is_script, program_kind, shows_module, shows_script};
+ghost use Rattle.std.specs.Prelude.{◌≡◌, Some};
+ghost use Rattle.findings.specs.Script.{FirstTellingChildDecides, first_shows, is_script, kind_word, program_kind};
 ghost use Rattle.tree.specs.Forest.{children};
 ghost use Rattle.tree.specs.Subject.{tree_rows};
 
-use kinds::kind::*;
-use tree::Tree;
+use kinds::kind::Kind;
+use std::fmt;
+use tree::{Node, Tree};
 
 /// What a program is.
 #[derive(Clone, Copy, PartialEq, Eq, Debug)]
@@ -14,27 +15,23 @@ pub enum ProgramKind {
     Script,
 }
 
-/// A borrowed program, the subject of the analyses. docs/DECISIONS.md says why it is no enum of a module and a script.
+/// A borrowed program, the subject of the analyses. It is no enum of a module and a script, whose cases any caller could
+/// give to any tree: the tree's own root says which it is.
 #[derive(Clone, Copy)]
 pub struct ProgramRef<'a> {
     tree: &'a Tree<'a>,
 }
 
-/// Whether a child of this kind shows a module.
-fn shows_module(kind: u32) -> bool
-    ensures { result ≡ shows_module kind }
-{
-    matches!(
-        kind,
-        IMPORT | EXPORT_ALL | EXPORT_DECL | EXPORT_NAMED | EXPORT_DEFAULT
-    )
-}
+/// The word for what a program is.
+impl fmt::Display for ProgramKind {
+    ghost output = { λ x. Some (kind_word x) };
 
-/// Whether a child of this kind shows a script.
-fn shows_script(kind: u32) -> bool
-    ensures { result ≡ shows_script kind }
-{
-    matches!(kind, TS_IMPORT_EQUALS | TS_EXPORT_ASSIGNMENT)
+    fn fmt<W: fmt::Write>(&self, f: &mut fmt::Formatter<W>) -> fmt::Result {
+        f.write_str(match self {
+            ProgramKind::Module => "module",
+            ProgramKind::Script => "script",
+        })
+    }
 }
 
 impl<'a> ProgramRef<'a> {
@@ -53,11 +50,20 @@ impl<'a> ProgramRef<'a> {
         tree
     }
 
+    /// The node at which the program stands.
+    pub fn root(&self) -> Node<'a, 'a>
+        ensures tree { result.tree.now ≡ self.now.tree.now }
+        ensures row { result.row ≡ 0 }
+    {
+        let tree = self.tree;
+        tree.node(0)
+    }
+
     /// Whether it is a module or a script, by the mark of row 0.
     pub fn kind(&self) -> ProgramKind
         ensures { result ≡ program_kind (tree_rows self.now.tree.now) }
     {
-        if self.tree.row(0).mark == 1 {
+        if self.root().is_marked() {
             ProgramKind::Script
         } else {
             ProgramKind::Module
@@ -75,20 +81,20 @@ impl<'a> ProgramRef<'a> {
         }
     }
 
+    /// Whether the first child that tells shows a script.
     fn children_show_script(&self) -> bool
         ensures { result ≡ first_shows (children (tree_rows self.now.tree.now) 0) }
     {
-        let tree = self.tree;
-        let mut child = tree.first_child(0);
-        while let Some(c) = child {
-            let kind = tree.row(c).kind;
-            if shows_module(kind) {
-                return false;
+        for child in self.root().children() {
+            match child.kind() {
+                Kind::Import
+                | Kind::ExportAll
+                | Kind::ExportDecl
+                | Kind::ExportNamed
+                | Kind::ExportDefault => return false,
+                Kind::TsImportEquals | Kind::TsExportAssignment => return true,
+                _ => {}
             }
-            if shows_script(kind) {
-                return true;
-            }
-            child = tree.next_sibling(c, 0);
         }
         false
     }

@@ -10,18 +10,17 @@ pub enum FindingsFault {
     Full { module: u32, row: usize },
 }
 
-impl FindingsFault {
-    /// The number, the layer, the module and the place of the refusal.
-    pub fn fault(&self) -> Fault
-        ensures { result ≡ describe self.now }
-    {
-        match *self {
-            FindingsFault::Full { module, row } => Fault {
-                number: 6,
-                layer: Layer::Findings,
-                module,
-                place: row,
-            },
+/// The number, the layer, the module and the place of the refusal.
+impl From<FindingsFault> for Fault {
+    ghost from_gives = { λ refusal r. r ≡ describe refusal };
+
+    fn from(refusal: FindingsFault) -> Self {
+        let FindingsFault::Full { module, row } = refusal;
+        Fault {
+            number: 6,
+            layer: Layer::Findings,
+            module,
+            place: row,
         }
     }
 }
