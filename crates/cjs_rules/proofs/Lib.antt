@@ -1,1 +1,1 @@
-mod Either
+pub mod Listed

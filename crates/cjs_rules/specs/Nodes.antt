@@ -1,10 +1,11 @@
 -- A row with its children: the unit of every rule.
-use Rattle.std.specs.Prelude.{ℕ, zero, suc, Bool, true, false, ◌||◌, List, Some, None, Option, ◌==◌}
+use Rattle.std.specs.Prelude.{◌≡◌, ℕ, zero, suc, Bool, true, false, ◌||◌, List, Some, None, Option, ◌==◌}
 use Rattle.text.specs.Place.{stretch}
 use Rattle.text.specs.declared.place.Place.{Place}
 use Rattle.tree.specs.declared.row.Row.{Row}
 use Rattle.tree.specs.declared.tree.Tree.{Tree}
-use Rattle.tree.specs.Subject.{tree_rows}
+use Rattle.tree.specs.declared.node.Node.{Node as TreeNode}
+use Rattle.tree.specs.Subject.{tree_rows, tree_text}
 use Rattle.tree.specs.Forest.{Forest, nil, node, children, row_at}
 
 pub record Node : Type 0 where
@@ -23,6 +24,23 @@ at t j = node_at (tree_rows t) j
 abbrev pub found : Tree → Option ℕ → Option Node
 found t None = None
 found t (Some j) = Some (at t j)
+
+-- what stands at a node of a tree, and the text section that its texts lie in
+abbrev pub here : TreeNode → Node
+here n = at n.tree.now n.row
+
+abbrev pub section : TreeNode → List ℕ
+section n = tree_text n.tree.now
+
+-- what stands at a node that was found
+abbrev pub seen : Option TreeNode → Option Node
+seen None = None
+seen (Some n) = Some (here n)
+
+-- a node that was found stands in the tree of this one
+abbrev pub InTree : TreeNode → Option TreeNode → Type 0
+InTree n None = Unit {0}
+InTree n (Some m) = m.tree.now ≡ n.tree.now
 
 abbrev pub is : ℕ → Node → Bool
 is kind n = n.row.kind == kind

@@ -1,100 +1,94 @@
 //! Calls: of `Object.defineProperty`, and of the helpers that copy exports.
 ghost use Rattle.std.specs.Prelude.{◌≡◌};
-ghost use Rattle.cjs_rules.specs.Nodes.{at, found};
+ghost use Rattle.cjs_rules.specs.Nodes.{InTree, here, section, seen};
 ghost use Rattle.cjs_rules.specs.Rules.{get_callee_member_expr, is_export_callee, is_export_member, is_object_define, is_object_define_callee, is_star};
-ghost use Rattle.tree.specs.Subject.{tree_text};
 
 use crate::exports_object::is_module_exports_or_exports;
 use crate::words::is_ident;
-use kinds::kind::{IDENT, MEMBER, NUM, PAREN, SEQ, SPREAD};
-use tree::Tree;
+use kinds::kind::Kind;
+use tree::Node;
 
-/// The row that a callee's member expression stands at.
-pub fn get_callee_member_expr(tree: &Tree, c: usize) -> Option<usize>
-    ensures { found tree.now result ≡ get_callee_member_expr (at tree.now c) }
+/// The member expression of a callee.
+pub fn get_callee_member_expr<'t, 'a>(callee: Node<'t, 'a>) -> Option<Node<'t, 'a>>
+    ensures is { seen result ≡ get_callee_member_expr (here callee.entry) }
+    ensures tree { InTree callee.entry result }
 {
-    if tree.row(c).kind == MEMBER {
-        return Some(c);
+    if callee.is(Kind::Member) {
+        return Some(callee);
     }
-    if tree.row(c).kind != PAREN {
+    if !callee.is(Kind::Paren) {
         return None;
     }
-    let s = tree.first_child(c)?;
-    if tree.row(s).kind != SEQ {
+    let seq = callee.children().next()?;
+    if !seq.is(Kind::Seq) {
         return None;
     }
-    let z = tree.first_child(s)?;
-    let m = tree.next_sibling(z, s)?;
-    if tree.next_sibling(m, s).is_some() {
+    let mut items = seq.children();
+    let zero = items.next()?;
+    let member = items.next()?;
+    if items.next().is_some() {
         return None;
     }
-    if tree.row(z).kind == NUM && tree.row(z).mark == 1 && tree.row(m).kind == MEMBER {
-        Some(m)
+    if zero.is(Kind::Num) && zero.is_marked() && member.is(Kind::Member) {
+        Some(member)
     } else {
         None
     }
 }
 
-fn is_object_define_callee(tree: &Tree, c: usize) -> bool
-    ensures { result ≡ is_object_define_callee (tree_text tree.now) (at tree.now c) }
+fn is_object_define_callee(callee: Node) -> bool
+    ensures { result ≡ is_object_define_callee (section callee.entry) (here callee.entry) }
 {
-    let Some(m) = get_callee_member_expr(tree, c) else {
+    let Some(member) = get_callee_member_expr(callee) else {
         return false;
     };
-    let Some(o) = tree.first_child(m) else {
+    let mut parts = member.children();
+    let (Some(object), Some(property)) = (parts.next(), parts.next()) else {
         return false;
     };
-    let Some(p) = tree.next_sibling(o, m) else {
-        return false;
-    };
-    is_ident(tree, o, b"Object") && is_ident(tree, p, b"defineProperty")
+    is_ident(object, b"Object") && is_ident(property, b"defineProperty")
 }
 
-/// Whether row j, a call, is one of `Object.defineProperty` on the exports object.
-pub fn is_object_define(tree: &Tree, j: usize) -> bool
-    ensures { result ≡ is_object_define (tree_text tree.now) (at tree.now j).kids }
+/// Whether a call is one of `Object.defineProperty` on the exports object.
+pub fn is_object_define(call: Node) -> bool
+    ensures { result ≡ is_object_define (section call.entry) (here call.entry).kids }
 {
-    let Some(c) = tree.first_child(j) else {
+    let mut parts = call.children();
+    let (Some(callee), Some(object), Some(name), Some(descriptor)) = (
+        parts.next(),
+        parts.next(),
+        parts.next(),
+        parts.next(),
+    ) else {
         return false;
     };
-    let Some(a) = tree.next_sibling(c, j) else {
-        return false;
-    };
-    let Some(b) = tree.next_sibling(a, j) else {
-        return false;
-    };
-    let Some(d) = tree.next_sibling(b, j) else {
-        return false;
-    };
-    is_object_define_callee(tree, c)
-        && is_module_exports_or_exports(tree, a)
-        && tree.row(b).kind != SPREAD
-        && tree.row(d).kind != SPREAD
+    is_object_define_callee(callee)
+        && is_module_exports_or_exports(object)
+        && !name.is(Kind::Spread)
+        && !descriptor.is(Kind::Spread)
 }
 
-fn is_star(tree: &Tree, n: usize) -> bool
-    ensures { result ≡ is_star (tree_text tree.now) (at tree.now n) }
+fn is_star(node: Node) -> bool
+    ensures { result ≡ is_star (section node.entry) (here node.entry) }
 {
-    is_ident(tree, n, b"__exportStar") || is_ident(tree, n, b"__export")
+    is_ident(node, b"__exportStar") || is_ident(node, b"__export")
 }
 
-fn is_export_member(tree: &Tree, m: usize) -> bool
-    ensures { result ≡ is_export_member (tree_text tree.now) (at tree.now m) }
+fn is_export_member(member: Node) -> bool
+    ensures { result ≡ is_export_member (section member.entry) (here member.entry) }
 {
-    let Some(o) = tree.first_child(m) else {
+    let mut parts = member.children();
+    let (Some(object), Some(property)) = (parts.next(), parts.next()) else {
         return false;
     };
-    let Some(p) = tree.next_sibling(o, m) else {
-        return false;
-    };
-    tree.row(o).kind == IDENT && is_star(tree, p)
+    object.is(Kind::Ident) && is_star(property)
 }
 
-pub fn is_export_callee(tree: &Tree, c: usize) -> bool
-    ensures { result ≡ is_export_callee (tree_text tree.now) (at tree.now c) }
+pub fn is_export_callee(callee: Node) -> bool
+    ensures { result ≡ is_export_callee (section callee.entry) (here callee.entry) }
 {
-    match get_callee_member_expr(tree, c) {
-        Some(m) => is_export_member(tree, m),
-        None => is_star(tree, c),
+    match get_callee_member_expr(callee) {
+        Some(member) => is_export_member(member),
+        None => is_star(callee),
     }
 }

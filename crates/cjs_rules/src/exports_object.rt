@@ -1,55 +1,54 @@
 //! The exports object: `exports` and `module.exports`.
 ghost use Rattle.std.specs.Prelude.{◌≡◌};
-ghost use Rattle.cjs_rules.specs.Nodes.{at};
+ghost use Rattle.cjs_rules.specs.Nodes.{here, section};
 ghost use Rattle.cjs_rules.specs.Rules.{get_member_prop_text, is_exports_expr, is_module_exports_member, is_module_exports_or_exports};
-ghost use Rattle.tree.specs.Subject.{tree_text};
 
-use crate::words::{is_ident, is_plain_str, place_of};
-use kinds::kind::{COMPUTED, IDENT, MEMBER};
+use crate::words::{is_ident, is_plain_str};
+use kinds::kind::Kind;
 use text::{Place, is_word};
-use tree::Tree;
+use tree::Node;
 
 /// The place of a member property's text.
-pub fn get_member_prop_text(tree: &Tree, p: usize) -> Option<Place>
-    ensures { result ≡ get_member_prop_text (tree_text tree.now) (at tree.now p) }
+pub fn get_member_prop_text(property: Node) -> Option<Place>
+    ensures { result ≡ get_member_prop_text (section property.entry) (here property.entry) }
 {
-    if tree.row(p).kind == IDENT {
-        return Some(place_of(tree, p));
-    }
-    if tree.row(p).kind != COMPUTED {
-        return None;
-    }
-    let x = tree.first_child(p)?;
-    if is_plain_str(tree, x) {
-        Some(place_of(tree, x))
-    } else {
-        None
+    match property.kind() {
+        Kind::Ident => Some(property.place()),
+        Kind::Computed => {
+            let key = property.children().next()?;
+            if is_plain_str(key) {
+                Some(key.place())
+            } else {
+                None
+            }
+        }
+        _ => None,
     }
 }
 
-pub fn is_module_exports_member(tree: &Tree, m: usize) -> bool
-    ensures { result ≡ is_module_exports_member (tree_text tree.now) (at tree.now m) }
+pub fn is_module_exports_member(member: Node) -> bool
+    ensures { result ≡ is_module_exports_member (section member.entry) (here member.entry) }
 {
-    let Some(o) = tree.first_child(m) else {
+    let mut parts = member.children();
+    let (Some(object), Some(property)) = (parts.next(), parts.next()) else {
         return false;
     };
-    let Some(p) = tree.next_sibling(o, m) else {
-        return false;
-    };
-    match get_member_prop_text(tree, p) {
-        Some(q) => is_ident(tree, o, b"module") && is_word(q.part(tree.text_section()), b"exports"),
+    match get_member_prop_text(property) {
+        Some(name) => {
+            is_ident(object, b"module") && is_word(name.part(member.text_section()), b"exports")
+        }
         None => false,
     }
 }
 
-pub fn is_exports_expr(tree: &Tree, n: usize) -> bool
-    ensures { result ≡ is_exports_expr (tree_text tree.now) (at tree.now n) }
+pub fn is_exports_expr(node: Node) -> bool
+    ensures { result ≡ is_exports_expr (section node.entry) (here node.entry) }
 {
-    is_ident(tree, n, b"exports")
+    is_ident(node, b"exports")
 }
 
-pub fn is_module_exports_or_exports(tree: &Tree, n: usize) -> bool
-    ensures { result ≡ is_module_exports_or_exports (tree_text tree.now) (at tree.now n) }
+pub fn is_module_exports_or_exports(node: Node) -> bool
+    ensures { result ≡ is_module_exports_or_exports (section node.entry) (here node.entry) }
 {
-    tree.row(n).kind == MEMBER && is_module_exports_member(tree, n) || is_exports_expr(tree, n)
+    node.is(Kind::Member) && is_module_exports_member(node) || is_exports_expr(node)
 }

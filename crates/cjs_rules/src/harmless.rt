@@ -1,44 +1,44 @@
 //! Harmless expressions: those without a side effect.
 ghost use Rattle.std.specs.Prelude.{◌≡◌};
-ghost use Rattle.cjs_rules.specs.Nodes.{at};
+ghost use Rattle.cjs_rules.specs.Nodes.{here};
 ghost use Rattle.cjs_rules.specs.Rules.{harmless as harmless_expr, harmless_prop, is_simple};
 
-use kinds::kind::*;
-use tree::{Row, Tree};
+use kinds::kind::Kind;
+use tree::Node;
 
-fn is_simple(row: Row) -> bool
-    ensures { result ≡ is_simple row }
+fn is_simple(node: Node) -> bool
+    ensures { result ≡ is_simple (here node.entry).row }
 {
-    matches!(row.kind, IDENT | STR | NUM | OTHER_LIT | OBJECT)
+    matches!(
+        node.kind(),
+        Kind::Ident | Kind::Str | Kind::Num | Kind::OtherLit | Kind::Object
+    )
 }
 
-/// Whether the expression at row j has no side effect.
+/// Whether the expression at a node has no side effect.
 #[cycle(harmless_values)]
-pub fn harmless(tree: &Tree, j: usize) -> bool
-    ensures { result ≡ harmless_expr (at tree.now j).kids (at tree.now j).row }
+pub fn harmless(node: Node) -> bool
+    ensures { result ≡ harmless_expr (here node.entry).kids (here node.entry).row }
 {
-    let r = tree.row(j);
-    if r.kind != MEMBER {
-        return is_simple(r);
+    if !node.is(Kind::Member) {
+        return is_simple(node);
     }
-    let Some(object) = tree.first_child(j) else {
+    let mut parts = node.children();
+    let (Some(object), Some(property)) = (parts.next(), parts.next()) else {
         return false;
     };
-    let Some(property) = tree.next_sibling(object, j) else {
-        return false;
-    };
-    harmless(tree, object) && harmless_prop(tree, property)
+    harmless(object) && harmless_prop(property)
 }
 
 #[cycle(harmless_values)]
-fn harmless_prop(tree: &Tree, p: usize) -> bool
-    ensures { result ≡ harmless_prop (at tree.now p).kids (at tree.now p).row }
+fn harmless_prop(property: Node) -> bool
+    ensures { result ≡ harmless_prop (here property.entry).kids (here property.entry).row }
 {
-    if tree.row(p).kind != COMPUTED {
+    if !property.is(Kind::Computed) {
         return true;
     }
-    match tree.first_child(p) {
-        Some(x) => harmless(tree, x),
+    match property.children().next() {
+        Some(key) => harmless(key),
         None => false,
     }
 }

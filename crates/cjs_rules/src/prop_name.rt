@@ -8,10 +8,9 @@ pub struct Part<'a> {
     pub bytes: &'a [u8],
 }
 
-/// An identifier, a string that has a plain reading, or no name.
+/// An identifier, or a string that has a plain reading.
 #[derive(Clone, Copy)]
 pub enum PropName<'a> {
     Ident(Part<'a>),
     Str(Part<'a>),
-    None,
 }

@@ -1,31 +1,31 @@
 //! Require values.
 ghost use Rattle.std.specs.Prelude.{◌≡◌};
-ghost use Rattle.cjs_rules.specs.Nodes.{at};
+ghost use Rattle.cjs_rules.specs.Nodes.{here, section};
 ghost use Rattle.cjs_rules.specs.Rules.{require_value};
-ghost use Rattle.tree.specs.Subject.{tree_text};
 
-use crate::words::{is_ident, is_plain_str, place_of};
-use kinds::kind::CALL;
+use crate::words::{is_ident, is_plain_str};
+use kinds::kind::Kind;
 use text::Place;
-use tree::Tree;
+use tree::Node;
 
-/// The place of the text that row j requires.
-pub fn require_value(tree: &Tree, j: usize) -> Option<Place>
-    ensures { result ≡ require_value (tree_text tree.now) (at tree.now j).row (at tree.now j).kids }
+/// The place of the text that a node requires.
+pub fn require_value(node: Node) -> Option<Place>
+    ensures { result ≡ require_value (section node.entry) (here node.entry).row (here node.entry).kids }
 {
-    let callee = tree.first_child(j)?;
-    let arg = tree.next_sibling(callee, j)?;
-    if tree.row(j).kind != CALL {
+    let mut parts = node.children();
+    let callee = parts.next()?;
+    let arg = parts.next()?;
+    if !node.is(Kind::Call) {
         return None;
     }
-    if is_ident(tree, callee, b"require") {
-        if is_plain_str(tree, arg) {
-            Some(place_of(tree, arg))
+    if is_ident(callee, b"require") {
+        if is_plain_str(arg) {
+            Some(arg.place())
         } else {
             None
         }
-    } else if is_ident(tree, callee, b"_interopRequireWildcard") {
-        require_value(tree, arg)
+    } else if is_ident(callee, b"_interopRequireWildcard") {
+        require_value(arg)
     } else {
         None
     }

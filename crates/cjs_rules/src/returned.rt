@@ -1,82 +1,83 @@
 //! Returned expressions.
 ghost use Rattle.std.specs.Prelude.{◌≡◌};
-ghost use Rattle.cjs_rules.specs.Nodes.{at, final, found};
+ghost use Rattle.cjs_rules.specs.Nodes.{InTree, final, here, seen};
 ghost use Rattle.cjs_rules.specs.Rules.{get_arrow_return_expr, get_block_stmt_return_expr, get_function_return_expr, get_prop_return_expr, get_value_return_expr};
 
-use kinds::kind::{ARROW, BLOCK, FN_EXPR, KEY_VALUE, METHOD, RETURN};
-use tree::Tree;
+use kinds::kind::Kind;
+use tree::Node;
 
-/// The last child of a row.
-pub fn last_child(tree: &Tree, j: usize) -> Option<usize>
-    ensures { found tree.now result ≡ final (at tree.now j).kids }
+/// The last child of a node.
+pub fn last_child<'t, 'a>(node: Node<'t, 'a>) -> Option<Node<'t, 'a>>
+    ensures is { seen result ≡ final (here node.entry).kids }
+    ensures tree { InTree node.entry result }
 {
-    let mut last = tree.first_child(j)?;
-    while let Some(c) = tree.next_sibling(last, j) {
-        last = c;
-    }
-    Some(last)
+    node.children().last()
 }
 
-/// The row that a block's only statement returns.
-pub fn get_block_stmt_return_expr(tree: &Tree, b: usize) -> Option<usize>
-    ensures { found tree.now result ≡ get_block_stmt_return_expr (at tree.now b) }
+/// The expression that a block's only statement returns.
+pub fn get_block_stmt_return_expr<'t, 'a>(block: Node<'t, 'a>) -> Option<Node<'t, 'a>>
+    ensures is { seen result ≡ get_block_stmt_return_expr (here block.entry) }
+    ensures tree { InTree block.entry result }
 {
-    if tree.row(b).kind != BLOCK {
+    if !block.is(Kind::Block) {
         return None;
     }
-    let s = tree.first_child(b)?;
-    if tree.next_sibling(s, b).is_some() {
+    let mut statements = block.children();
+    let statement = statements.next()?;
+    if statements.next().is_some() || !statement.is(Kind::Return) {
         return None;
     }
-    if tree.row(s).kind != RETURN {
-        return None;
-    }
-    tree.first_child(s)
+    statement.children().next()
 }
 
 /// What a function's block returns.
-fn get_function_return_expr(tree: &Tree, f: usize) -> Option<usize>
-    ensures { found tree.now result ≡ get_function_return_expr (at tree.now f) }
+fn get_function_return_expr<'t, 'a>(function: Node<'t, 'a>) -> Option<Node<'t, 'a>>
+    ensures is { seen result ≡ get_function_return_expr (here function.entry) }
+    ensures tree { InTree function.entry result }
 {
-    let body = last_child(tree, f)?;
-    get_block_stmt_return_expr(tree, body)
+    let body = last_child(function)?;
+    get_block_stmt_return_expr(body)
 }
 
 /// What an arrow function returns: its body, or what its block returns.
-fn get_arrow_return_expr(tree: &Tree, f: usize) -> Option<usize>
-    ensures { found tree.now result ≡ get_arrow_return_expr (at tree.now f) }
+fn get_arrow_return_expr<'t, 'a>(arrow: Node<'t, 'a>) -> Option<Node<'t, 'a>>
+    ensures is { seen result ≡ get_arrow_return_expr (here arrow.entry) }
+    ensures tree { InTree arrow.entry result }
 {
-    let body = last_child(tree, f)?;
-    if tree.row(body).kind == BLOCK {
-        get_block_stmt_return_expr(tree, body)
+    let body = last_child(arrow)?;
+    if body.is(Kind::Block) {
+        get_block_stmt_return_expr(body)
     } else {
         Some(body)
     }
 }
 
 /// What a function that stands as a value returns.
-fn get_value_return_expr(tree: &Tree, v: usize) -> Option<usize>
-    ensures { found tree.now result ≡ get_value_return_expr (at tree.now v) }
+fn get_value_return_expr<'t, 'a>(value: Node<'t, 'a>) -> Option<Node<'t, 'a>>
+    ensures is { seen result ≡ get_value_return_expr (here value.entry) }
+    ensures tree { InTree value.entry result }
 {
-    match tree.row(v).kind {
-        FN_EXPR => {
-            let function = last_child(tree, v)?;
-            get_function_return_expr(tree, function)
+    match value.kind() {
+        Kind::FnExpr => {
+            let function = last_child(value)?;
+            get_function_return_expr(function)
         }
-        ARROW => get_arrow_return_expr(tree, v),
+        Kind::Arrow => get_arrow_return_expr(value),
         _ => None,
     }
 }
 
 /// What the function in a property returns.
-pub fn get_prop_return_expr(tree: &Tree, p: usize) -> Option<usize>
-    ensures { found tree.now result ≡ get_prop_return_expr (at tree.now p) }
+pub fn get_prop_return_expr<'t, 'a>(property: Node<'t, 'a>) -> Option<Node<'t, 'a>>
+    ensures is { seen result ≡ get_prop_return_expr (here property.entry) }
+    ensures tree { InTree property.entry result }
 {
-    let key = tree.first_child(p)?;
-    let value = tree.next_sibling(key, p)?;
-    match tree.row(p).kind {
-        METHOD => get_function_return_expr(tree, value),
-        KEY_VALUE => get_value_return_expr(tree, value),
+    let mut parts = property.children();
+    let _key = parts.next()?;
+    let value = parts.next()?;
+    match property.kind() {
+        Kind::Method => get_function_return_expr(value),
+        Kind::KeyValue => get_value_return_expr(value),
         _ => None,
     }
 }
