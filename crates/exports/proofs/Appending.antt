@@ -7,7 +7,8 @@ use Rattle.table.specs.Table.{Left, Rest}
 use Rattle.table.specs.declared.table.Full.{Full}
 use Rattle.table.specs.declared.table.OrderedTable.{OrderedTable}
 use Rattle.text.specs.declared.place.Place.{Place}
-use Rattle.exports.specs.Append.{Appended, Extended, Ready, capacity, held}
+use Rattle.exports.specs.declared.append.PlaceList.{PlaceList}
+use Rattle.exports.specs.Append.{Appended, Extended, Lists, Ready, capacity, held}
 
 -- rows that hold a list that fits
 module _ {X : Type 0} (z : X) (cap : ℕ) (xs : List X) (n : ℕ) (rows : List X) (l : Left z cap xs n rows) where
@@ -35,21 +36,24 @@ module _ (n : ℕ) (rows : List Place) (rest : Rest no_place n rows) where
     rows_is = sym (take-append-drop n rows) ∙ ap (λ l. take n rows ++ l) (rest.zeros ∙ ap (λ k. replicate (length rows - k) no_place) (sym counted));
   }
 
+  -- one row more is counted, before it is written
+  pub still_ready : n < length rows → Rest no_place (n + 1) rows
+  still_ready lt = record {
+    fits = omega arith;
+    zeros =
+        let fewer : length rows - n - 1 ≡ length rows - (n + 1) = omega arith in
+        sym (drop-drop 1 n rows) ∙ ap (drop 1) rest.zeros ∙ drop-replicate 1 (length rows - n) no_place ∙ ap (λ k. replicate k no_place) fewer;
+  }
+
   -- one more, where there is room
   pub one_more : (p : Place) → n < length rows → Left no_place (length rows) (take n rows ++ p ∷ []) (n + 1) (set rows n p)
   one_more p lt =
       let long : length (take n rows ++ p ∷ []) ≡ n + 1 = length_push (take n rows) p ∙ ap (λ k. k + 1) counted in
-      let further : drop (suc n) rows ≡ replicate (length rows - (n + 1)) no_place =
-      let next : suc n ≡ n + 1 = omega arith in
-      let fewer : length rows - n - 1 ≡ length rows - (n + 1) = omega arith in
-      ap (λ k. drop k rows) next ∙ sym (drop-drop 1 n rows) ∙ ap (drop 1) rest.zeros ∙ drop-replicate 1 (length rows - n) no_place ∙ ap (λ k. replicate k no_place) fewer in
+      let further : drop (suc n) rows ≡ replicate (length rows - (n + 1)) no_place = let next : suc n ≡ n + 1 = omega arith in ap (λ k. drop k rows) next ∙ (still_ready lt).zeros in
       record {
         len_is = sym long;
         rows_is = set_split rows n p lt ∙ ap (λ l. take n rows ++ p ∷ l) (further ∙ ap (λ k. replicate (length rows - k) no_place) (sym long)) ∙ sym (append_assoc (take n rows) (p ∷ []) _);
       }
-
-  pub one_too_many : (p : Place) → n ≡ length rows → take (length rows) (take n rows ++ p ∷ []) ≡ take n rows
-  one_too_many p e = take_at (take n rows) (p ∷ []) (length rows) (counted ∙ e)
 
 module _ (ys : List Place) (s t : OrderedTable Place) (x : Extended ys s t) where
   within : length (take (capacity s) (held s ++ ys)) ≤ capacity s
@@ -60,9 +64,6 @@ module _ (ys : List Place) (s t : OrderedTable Place) (x : Extended ys s t) wher
 
   pub capacity_after : capacity t ≡ capacity s
   capacity_after = same_length no_place (capacity s) _ t.len t.rows.now x.rows within
-
-  pub ready_after : Ready t
-  ready_after = rest no_place (capacity s) _ t.len t.rows.now x.rows within
 
 pub nothing_appended : (s : OrderedTable Place) → Ready s → Appended [] s (Ok tt) s
 nothing_appended s h =
@@ -119,9 +120,13 @@ module _ (p : Place) (s : OrderedTable Place) (h : Ready s) where
         table = record { rows = rw all (record { len_is = len_is ∙ l.len_is; rows_is = rows_is ∙ l.rows_is }); lender = lender };
       }
 
-  pub one_refused : (e : Full) → s.len ≡ capacity s → Appended (p ∷ []) s (Err e) s
-  one_refused e full =
-      record {
-        answer = lt-false _ _ (omega (arith, long));
-        table = record { rows = rw (one_too_many s.len s.rows.now h p full) (as_they_are s.len s.rows.now h); lender = refl };
-      }
+-- the same of lists of places
+pub nothing_listed : (s : PlaceList) → Lists [] s (Ok tt) s
+nothing_listed s = record { appended = nothing_appended s.table.now s.ready; same = refl }
+
+pub more_listed : (ys zs : List Place) (s t u : PlaceList) (r : Result (Unit {0}) Full) → Lists ys s (Ok tt) t → Lists zs t r u → Lists (ys ++ zs) s r u
+more_listed ys zs s t u r a b =
+    record { appended = then_more ys zs s.table.now t.table.now u.table.now r a.appended b.appended; same = b.same ∙ a.same }
+
+pub cut_off : (ys zs : List Place) (s t : PlaceList) (e : Full) (r : Result (Unit {0}) Full) → Lists ys s (Err e) t → is_err r ≡ true → Lists (ys ++ zs) s r t
+cut_off ys zs s t e r a err = record { appended = then_cut_off ys zs s.table.now t.table.now e r a.appended err; same = a.same }

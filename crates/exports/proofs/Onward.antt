@@ -1,47 +1,35 @@
 -- A loop that appends: what it comes to as a whole is what it comes to from here on.
-use Rattle.std.proofs.Common.{◌≡◌, ℕ, ◌+◌, ◌-◌, ◌*◌, true, List, [], ◌++◌, is_err, Some, None, Ok, Err, Option, Result, refl, ap, ◌∙◌, subst}
+use Rattle.std.proofs.Common.{◌≡◌, ℕ, ◌-◌, true, List, [], ◌++◌, length, is_err, Ok, Err, Result, ap, ◌∙◌, subst, sym}
 use Rattle.table.specs.declared.table.Full.{Full}
-use Rattle.table.specs.declared.table.OrderedTable.{OrderedTable}
 use Rattle.text.specs.declared.place.Place.{Place}
-use Rattle.tree.specs.declared.row.Row.{Row}
-use Rattle.tree.specs.declared.tree.Tree.{Tree}
-use Rattle.tree.specs.Forest.{Forest, children, siblings, since}
+use Rattle.tree.specs.Children.{Comes, left, row_of}
+use Rattle.tree.specs.declared.node.Children.{Children}
+use Rattle.tree.specs.declared.node.Node.{Node}
+use Rattle.tree.specs.Forest.{Forest, children, node}
 use Rattle.tree.specs.Subject.{tree_rows}
-use Rattle.cjs_rules.specs.Nodes.{found}
-use Rattle.exports.specs.BoundNames.{bound_in, of_first}
-use Rattle.exports.specs.Append.{Appended, Ready}
-use Rattle.exports.proofs.Appending.{nothing_appended, ready_after, then_cut_off, then_more}
+use Rattle.exports.specs.declared.append.PlaceList.{PlaceList}
+use Rattle.exports.specs.Append.{Lists}
+use Rattle.exports.proofs.Appending.{nothing_listed, more_listed, cut_off}
 
--- how far a walk from a row that may be absent can go, with steps between the rows
-abbrev pub ahead : ℕ → Option ℕ → ℕ
-ahead n None = 0
-ahead n (Some c) = 3 * (n - c) + 3
+-- a bound on the rows under a node
+abbrev pub ahead : Node → ℕ
+ahead n = length (tree_rows n.tree.now) - n.row
 
--- from the table t on, with `left` to append, as from the table s on with `all`
-pub record Onward (all left : List Place) (s t : OrderedTable Place) : Type 0 where
-  pub ready : Ready t
-  pub on : (r : Result (Unit {0}) Full) (u : OrderedTable Place) → Appended left t r u → Appended all s r u
+-- from the list t on, with `rest` to append, as from the list s on with `all`
+pub record Onward (all rest : List Place) (s t : PlaceList) : Type 0 where
+  pub on : (r : Result (Unit {0}) Full) (u : PlaceList) → Lists rest t r u → Lists all s r u
 
--- a loop over the children of row j: `list` is what rows that stand side by side give, and `ys` what row x gives
-module _ (list : Forest → List Place) (all ys : List Place) (rs : List Row) (j x : ℕ) (at : Option ℕ) (s t u : OrderedTable Place)
-    (is : at ≡ Some x) (split : list (since rs j (Some x)) ≡ ys ++ list (siblings rs x j)) (o : Onward all (list (since rs j at)) s t) where
-  here : Onward all (ys ++ list (siblings rs x j)) s t
-  here = subst (λ l. Onward all l s t) (ap (λ a. list (since rs j a)) is ∙ split) o
+-- one turn of a loop over children: `f` is what those give that stand side by side, and `ys` what this one gives
+module _ (f : Forest → List Place) (all ys : List Place) (s t u : PlaceList) (before : Children) (n : Node) (after : Children) (c : Comes before n after)
+    (split : f (node n.row (row_of n) (children (tree_rows n.tree.now) n.row) (left after)) ≡ ys ++ f (left after)) (o : Onward all (f (left before)) s t) where
+  here : Onward all (ys ++ f (left after)) s t
+  here = subst (λ l. Onward all l s t) (ap f c.first ∙ split) o
 
-  pub turn : (next : Option ℕ) → siblings rs x j ≡ since rs j next → Appended ys t (Ok tt) u → Onward all (list (since rs j next)) s u
-  turn next e a =
-      record {
-        ready = ready_after ys t u a.table;
-        on = λ r v b. here.on r v (then_more ys (list (siblings rs x j)) t u v r a (rw e b));
-      }
+  pub turn : Lists ys t (Ok tt) u → Onward all (f (left after)) s u
+  turn a = record { on = λ r v b. here.on r v (more_listed ys (f (left after)) t u v r a b) }
 
-  pub stop : (e : Full) (r : Result (Unit {0}) Full) → Appended ys t (Err e) u → is_err r ≡ true → Appended all s r u
-  stop e r a err = here.on r u (then_cut_off ys (list (siblings rs x j)) t u e r a err)
+  pub stop : (e : Full) (r : Result (Unit {0}) Full) → Lists ys t (Err e) u → is_err r ≡ true → Lists all s r u
+  stop e r a err = here.on r u (cut_off ys (f (left after)) t u e r a err)
 
-pub done : (all left : List Place) (s t : OrderedTable Place) → left ≡ [] → Onward all left s t → Appended all s (Ok tt) t
-done all left s t e o = o.on (Ok tt) t (rw e (nothing_appended t o.ready))
-
--- the names of what stands first in a row
-pub first_bound : (t : Tree) (j : ℕ) (r : Option ℕ) → children (tree_rows t) j ≡ since (tree_rows t) j r → bound_in (found t r) ≡ of_first (children (tree_rows t) j)
-first_bound t j None e = rw e refl
-first_bound t j (Some c) e = rw e refl
+pub done : (all rest : List Place) (s t : PlaceList) → rest ≡ [] → Onward all rest s t → Lists all s (Ok tt) t
+done all rest s t e o = o.on (Ok tt) t (subst (λ l. Lists l t (Ok tt) t) (sym e) (nothing_listed t))

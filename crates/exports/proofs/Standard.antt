@@ -1,20 +1,12 @@
 -- An item with no part outside the standard exports its ExportedNames.
-use Rattle.std.proofs.Common.{◌≡◌, Bool, true, false, cond, ◌||◌, eqb, List, [], ◌++◌, Some, None, Option, refl, true≢false}
+use Rattle.std.proofs.Common.{◌≡◌, Bool, true, false, cond, eqb, List, [], ◌++◌, Some, None, Option, refl}
 use Rattle.kinds.specs.Kinds.{default_spec, export_decl, export_default, export_named}
-use Rattle.std.proofs.lemmas.Bool.{cond-false}
+use Rattle.std.proofs.lemmas.Bool.{cond-false, or_parts}
 use Rattle.text.specs.declared.place.Place.{Place}
 use Rattle.tree.specs.Forest.{Forest, nil, node}
 use Rattle.cjs_rules.specs.Nodes.{Node, any_of_kind, child, is}
 use Rattle.exports.specs.Beyond.{ItemsOfTheStandardExportTheirExportedNames, declaration_names, declares_beyond, is_type, specifier_names}
 use Rattle.exports.specs.ExportedNames.{each, if_any, of_declaration, of_default, of_specifier}
-
-neither_left : (a b : Bool) → (a || b) ≡ false → a ≡ false
-neither_left true b e = e
-neither_left false b e = refl
-
-neither_right : (a b : Bool) → (a || b) ≡ false → b ≡ false
-neither_right true b e = absurd (true≢false e)
-neither_right false b e = e
 
 same_declaration : (d : Option Node) → declares_beyond d ≡ false → if_any declaration_names d ≡ if_any of_declaration d
 same_declaration None e = refl
@@ -23,8 +15,8 @@ same_declaration (Some d) e = cond-false _ _ _ e
 same_specifiers : (f : Forest) → any_of_kind default_spec f ≡ false → each specifier_names f ≡ each of_specifier f
 same_specifiers nil e = refl
 same_specifiers (node j r f rest) e =
-    let here : specifier_names (record { row = r; kids = f }) ≡ of_specifier (record { row = r; kids = f }) = cond-false _ _ _ (neither_left (eqb r.kind default_spec) (any_of_kind default_spec rest) e) in
-    let later = same_specifiers rest (neither_right (eqb r.kind default_spec) (any_of_kind default_spec rest) e) in
+    let here : specifier_names (record { row = r; kids = f }) ≡ of_specifier (record { row = r; kids = f }) = cond-false _ _ _ (or_parts (eqb r.kind default_spec) (any_of_kind default_spec rest) e).0 in
+    let later = same_specifiers rest (or_parts (eqb r.kind default_spec) (any_of_kind default_spec rest) e).1 in
     λ i. here i ++ later i
 
 -- one of three lists, each the same unless a part is outside

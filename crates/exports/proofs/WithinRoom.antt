@@ -3,17 +3,17 @@ use Rattle.std.proofs.Common.{◌≡◌, ℕ, ◌+◌, ◌<◌, ◌≤◌, true,
 use borrow.Author.Tests.{lt-leb}
 use Rattle.findings.specs.Tables.{Found, Room}
 use Rattle.std.proofs.lemmas.List.{length-append}
-use Rattle.std.proofs.lemmas.Bool.{cases_Bool, cases_order, cond_both, cond-false, cond-true}
+use Rattle.std.proofs.lemmas.Bool.{and_parts, cases_Bool, cases_order, cond_both, cond-false, cond-true}
 use Rattle.text.specs.declared.place.Place.{Place}
 use Rattle.tree.specs.declared.row.Row.{Row}
 use Rattle.tree.specs.Enclosure.{Rises, Stands}
 use Rattle.tree.specs.Forest.{Forest, Nested, children, nil, node, row_at}
 use Rattle.tree.proofs.Direct.{children_are_enclosed_directly, children_stand_in_order}
 use Rattle.cjs_rules.specs.Nodes.{Node}
+use Rattle.findings.proofs.Telling.{rising}
 use Rattle.exports.specs.Beyond.{item_names}
 use Rattle.exports.specs.ExportedNames.{each, star_of}
 use Rattle.exports.specs.Listing.{FirstWithoutRoom, Fits, ListedWholeOrRefusedAtTheFirstChildWithoutRoom, es_outcome, has_enough_room, items, listed, listing, up_to}
-use Rattle.exports.proofs.Progress.{and_left, and_right}
 
 module _ (room : Room) where
   -- there is room for these names and stars, and then for all of these items
@@ -59,7 +59,7 @@ module _ (room : Room) where
       let n : Node = record { row = r; kids = f } in
       ⊎_elim
       (λ fits. item_counted names stars n rest j
-      (only_within (names ++ item_names n) (stars ++ star_of n) rest found (leb-true _ _ (and_left _ _ fits)) (leb-true _ _ (and_right _ _ fits)) (sym (cond-true _ _ _ fits) ∙ e)))
+      (only_within (names ++ item_names n) (stars ++ star_of n) rest found (leb-true _ _ (and_parts _ _ fits).0) (leb-true _ _ (and_parts _ _ fits).1) (sym (cond-true _ _ _ fits) ∙ e)))
       (λ over. absurd (let err : Err j ≡ Ok found = sym (cond-false _ _ _ over) ∙ e in let z : ◌≡◌ {A = ℕ} 0 1 = cc in omega arith))
       (cases_Bool (has_enough_room room (listing (names ++ item_names n) (stars ++ star_of n))))
 
@@ -67,10 +67,6 @@ module _ (room : Room) where
   none_up_to : (c from : ℕ) (f : Forest) → c < from → Rises from f → up_to c f ≡ nil
   none_up_to c from nil h rises = refl
   none_up_to c from (node j r f rest) h rises = cond-false _ _ _ (lt-leb j c (omega (arith, rises.0)))
-
-  rising : (f : Forest) (from c : ℕ) → Rises from f → Stands c f → from ≤ c
-  rising nil from c rises s = absurd s
-  rising (node j r f rest) from c rises s = ⊎_elim (λ e. omega (arith, rises.0)) (λ t. omega (arith, rises.0, rising rest (j + 1) c rises.1 t)) s
 
   -- row c is the first among the items up to which there is no room
   record First (names stars : List Place) (f : Forest) (c : ℕ) : Type 0 where
@@ -91,7 +87,7 @@ module _ (room : Room) where
     within_first : has_enough_room room (listing (names ++ item_names n) (stars ++ star_of n)) ≡ true → Within names stars (up_to j here)
     within_first fits =
         rw up_to_first
-        (item_counted names stars n nil j (within_nothing (names ++ item_names n) (stars ++ star_of n) (leb-true _ _ (and_left _ _ fits)) (leb-true _ _ (and_right _ _ fits))))
+        (item_counted names stars n nil j (within_nothing (names ++ item_names n) (stars ++ star_of n) (leb-true _ _ (and_parts _ _ fits).0) (leb-true _ _ (and_parts _ _ fits).1)))
 
     first_is_full : has_enough_room room (listing (names ++ item_names n) (stars ++ star_of n)) ≡ false → Within names stars (up_to j here) → ⊥
     first_is_full over w =
@@ -103,7 +99,7 @@ module _ (room : Room) where
       let n : Node = record { row = r; kids = f } in
       ⊎_elim
       (λ fits.
-      let ih = first_refused (names ++ item_names n) (stars ++ star_of n) rest (j + 1) c rises.1 (leb-true _ _ (and_left _ _ fits)) (leb-true _ _ (and_right _ _ fits)) (sym (cond-true _ _ _ fits) ∙ e) in
+      let ih = first_refused (names ++ item_names n) (stars ++ star_of n) rest (j + 1) c rises.1 (leb-true _ _ (and_parts _ _ fits).0) (leb-true _ _ (and_parts _ _ fits).1) (sym (cond-true _ _ _ fits) ∙ e) in
       let above : j < c = omega (arith, rising rest (j + 1) c rises.1 ih.item) in
       record {
         item = inr ih.item;

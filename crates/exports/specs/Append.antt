@@ -1,5 +1,6 @@
 -- Places appended to a table, as far as it has room, and to the tables of exports and re-exports.
 use Rattle.std.specs.Prelude.{◌≡◌, ℕ, ◌&&◌, List, [], ◌∷◌, ◌++◌, length, take, is_ok, Some, None, Option, Result, nat_le}
+use Rattle.exports.specs.declared.append.PlaceList.{PlaceList}
 use Rattle.findings.specs.declared.tables.FindingsTables.{FindingsTables}
 use Rattle.table.specs.Kinds.{no_place}
 use Rattle.table.specs.Table.{Left, Rest}
@@ -27,6 +28,11 @@ pub record Extended (ys : List Place) (s t : OrderedTable Place) : Type 0 where
 pub record Appended (ys : List Place) (s : OrderedTable Place) (r : Result (Unit {0}) Full) (t : OrderedTable Place) : Type 0 where
   pub answer : is_ok r ≡ nat_le (length (held s ++ ys)) (capacity s)
   pub table : Extended ys s t
+
+-- the same of a list of places, whose table stays that of the same lender
+pub record Lists (ys : List Place) (s : PlaceList) (r : Result (Unit {0}) Full) (t : PlaceList) : Type 0 where
+  pub appended : Appended ys s.table.now r t.table.now
+  pub same : t.table.ghost_name ≡ s.table.ghost_name
 
 -- an answer that may be absent, as a list
 abbrev pub optional : Option Place → List Place

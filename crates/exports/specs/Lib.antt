@@ -1,6 +1,6 @@
 pub mod BoundNames
 pub mod ExportedNames
 pub mod Beyond
-pub mod Declarations
 pub mod Listing
 pub mod Append
+pub mod Beneath

@@ -1,34 +1,43 @@
-//! Entries at the end of a table, in the order in which they come.
-ghost use Rattle.std.specs.Prelude.{[], ◌∷◌};
-ghost use Rattle.exports.specs.Append.{Appended, Ready, optional};
+//! Places at the end of a table, in the order in which they come.
+ghost use Rattle.std.specs.Prelude.{◌≡◌};
+ghost use Rattle.table.specs.Kinds.{no_place};
+ghost use Rattle.table.specs.Table.{Rest};
 
 use table::{Full, OrderedTable};
 use text::Place;
 
-/// Appends a place, where there is room.
-pub(crate) fn append(table: &mut OrderedTable<Place>, place: Place) -> Result<(), Full>
-    requires { Ready table.old }
-    ensures { Appended (place ∷ []) table.old result table.new }
-{
-    let n = table.len;
-    if n == table.rows.len() {
-        return Err(Full);
-    }
-    table.rows[n] = place;
-    table.len = n + 1;
-    Ok(())
+/// A table that places are appended to. The rows past its count are zero.
+#[derive(Drop)]
+pub(crate) struct PlaceList<'a, 't> {
+    pub(crate) table: &'a mut OrderedTable<'t, Place>,
+    ghost ready: { Rest no_place table.now.len table.now.rows.now },
 }
 
-/// Appends the place, if there is one.
-pub(crate) fn append_if_any(
-    table: &mut OrderedTable<Place>,
-    place: Option<Place>,
-) -> Result<(), Full>
-    requires { Ready table.old }
-    ensures { Appended (optional place) table.old result table.new }
-{
-    match place {
-        Some(p) => append(table, p),
-        None => Ok(()),
+impl<'a, 't> PlaceList<'a, 't> {
+    ghost use Rattle.std.specs.Prelude.{[], ◌∷◌};
+    ghost use Rattle.exports.specs.Append.{Lists, optional};
+
+    /// Appends a place, where there is room.
+    pub(crate) fn append(&mut self, place: Place) -> Result<(), Full>
+        ensures { Lists (place ∷ []) self.old result self.new }
+    {
+        let n = self.table.len;
+        if n == self.table.rows.len() {
+            return Err(Full);
+        }
+        // The count comes first, so that the rows past it stay zero at each write.
+        self.table.len = n + 1;
+        self.table.rows[n] = place;
+        Ok(())
+    }
+
+    /// Appends the place, if there is one.
+    pub(crate) fn append_if_any(&mut self, place: Option<Place>) -> Result<(), Full>
+        ensures { Lists (optional place) self.old result self.new }
+    {
+        if let Some(place) = place {
+            self.append(place)?;
+        }
+        Ok(())
     }
 }

@@ -21,7 +21,7 @@ pub fn analyze_es_runtime_exports(
 {
     tables.clear();
     match program.kind() {
-        ProgramKind::Module => list_items(program.tree(), tables),
+        ProgramKind::Module => list_items(program, tables),
         ProgramKind::Script => Ok(()),
     }
 }

@@ -15,7 +15,7 @@ returns-in-Module c =
     let tree = c.args.program.tree.now in
     let mark : eqb (row_at (tree_rows tree) 0).mark 1 ≡ false = search rules in
     record {
-      analysed = module_analysed c.args.tables.now c.clear.new.self c.list_items.new.tables (tree_module tree) (tree_rows tree) c.list_items.result c.clear.ensures.cleared mark (rw c.tree.ensures at c.list_items.ensures.analysed);
+      analysed = module_analysed c.args.tables.now c.clear.new.self c.list_items.new.tables (tree_module tree) (tree_rows tree) c.list_items.result c.clear.ensures.cleared mark c.list_items.ensures.analysed;
       lenders = lenders_kept _ _ _ c.clear.ensures.lenders c.list_items.ensures.lenders;
       whole = listed_whole_or_refused;
       standard = items_of_the_standard;

@@ -1,24 +1,23 @@
 use Rattle.std.proofs.Common.{◌≡◌, true, false, is_err, rules}
+use Rattle.cjs_rules.specs.Nodes.{here}
+use Rattle.tree.specs.Children.{left}
+use Rattle.tree.specs.Forest.{children}
 use Rattle.tree.specs.Subject.{tree_module, tree_rows}
-use Rattle.exports.proofs.Progress.{at_next, exports_ready, lenders_kept, no_room, reexports_ready, same_lenders}
+use Rattle.exports.proofs.Progress.{all_listed, at_next, no_room}
 use Rattle.exports.proofs.items.list_items.Goals as goal
 
-pub list_item-requires : goal.list_item-requires
-list_item-requires c = record { exports = exports_ready _ _ _ _ c.loop-next.invariant; reexports = reexports_ready _ _ _ _ c.loop-next.invariant }
-
-pub returns-then-is_err : goal.returns-then-is_err
-returns-then-is_err c =
-    let s = c.args.tables.now in
-    let t = c.loop-next.tables in
-    let rs = tree_rows c.args.tree.now in
+pub returns-in-Err-clause-analysed : goal.returns-in-Err-clause-analysed
+returns-in-Err-clause-analysed c =
+    let items : left c.into_iter-item-iterator.result ≡ children (tree_rows c.args.program.tree.now) 0 = search rules in
     let err : is_err c.list_item.result ≡ true = search rules in
-    record {
-      analysed = rw c.module.ensures (no_room s t rs c.loop-next.next c.loop-next.invariant c.in-Some.item c.in-Some.is c.list_item.result c.list_item.new.tables c.list_item.ensures err (tree_module c.args.tree.now) c.clear.new.self c.clear.ensures.cleared);
-      lenders = lenders_kept _ _ _ (same_lenders s t rs c.loop-next.next c.loop-next.invariant c.in-Some.item c.in-Some.is c.list_item.result c.list_item.new.tables c.list_item.ensures) c.clear.ensures.lenders;
-    }
+    no_room _ _ _ _ (rw items at c.loop-item.invariant.2) _ (here c.in-Some.item) (left c.next.new.self) c.in-Some.ensures.steps.first _ _ c.list_item.ensures err (tree_module c.args.program.tree.now) _ _ (search rules) (search rules)
 
-pub loop-next-preserved : goal.loop-next-preserved
-loop-next-preserved c =
+pub loop-item-preserved : goal.loop-item-preserved
+loop-item-preserved c =
     let ok : is_err c.list_item.result ≡ false = search rules in
-    at_next c.args.tables.now c.loop-next.tables (tree_rows c.args.tree.now) c.loop-next.next c.loop-next.invariant c.in-Some.item c.in-Some.is c.list_item.result c.list_item.new.tables c.list_item.ensures ok
-    c.next_sibling-next.result c.next_sibling-next.ensures.is
+    (tt, tt, at_next _ _ _ _ c.loop-item.invariant.2 _ (here c.in-Some.item) (left c.next.new.self) c.in-Some.ensures.steps.first _ _ c.list_item.ensures ok)
+
+pub returns-clause-analysed : goal.returns-clause-analysed
+returns-clause-analysed c =
+    let items : left c.into_iter-item-iterator.result ≡ children (tree_rows c.args.program.tree.now) 0 = search rules in
+    all_listed _ _ _ _ (rw items at c.loop-item.invariant.2) c.in-None.ensures.steps.0 _
