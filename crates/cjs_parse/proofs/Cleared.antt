@@ -4,10 +4,15 @@ use Rattle.std.proofs.lemmas.List.{length-replicate}
 use Rattle.table.specs.Kind.{Holds, Kind}
 use Rattle.table.specs.Kinds.{bindings as binding_kind, places as place_kind}
 use Rattle.table.specs.Table.{Left, Rest}
-use Rattle.findings.specs.Tables.{Analysed, Found, Hold, Room, answered, kept, nothing, room_of}
+use Rattle.tree.specs.declared.tree.Tree.{Tree}
+use Rattle.tree.specs.Subject.{tree_module, tree_rows, tree_text}
+use Rattle.findings.specs.Tables.{Analysed, Found, Hold, Room, SameLenders, answered, kept, nothing, room_of}
+use Rattle.findings.specs.declared.refusal.FindingsFault.{FindingsFault}
 use Rattle.findings.specs.declared.refusal.FindingsFault.TheVariants.{Full}
 use Rattle.findings.specs.declared.tables.FindingsTables.{FindingsTables}
-use Rattle.cjs_parse.specs.State.{Sound, state}
+use Rattle.cjs_parse.specs.Outcome.{cjs_outcome}
+use Rattle.cjs_parse.specs.State.{Ends, Sound, state}
+use Rattle.cjs_parse.proofs.Steps.{lenders_on}
 
 module _ {X : Type 0} (z : X) (cap n : ℕ) (rows : List X) (l : Left z cap [] n rows) where
   pub empty_length : length rows ≡ cap
@@ -63,3 +68,13 @@ analysed_ok m room o f t e h = record { answer = sym (ap (answered m) e); tables
 pub analysed_err : (m n : ℕ) (room : Room) (o : Result Found ℕ) (j : ℕ) (t : FindingsTables) → o ≡ Err j → n ≡ m → Hold room nothing t → Analysed m room o (Err (Full n j)) t
 analysed_err m n room o j t e q h =
     record { answer = ap (λ k. Err (Full k j)) q ∙ sym (ap (answered m) e); tables = subst (λ q. Hold room (kept q) t) (sym e) h }
+
+-- a walk that is refused leaves cleared tables
+pub refused :
+    (v u w x : FindingsTables) (t s : Tree) (full : FindingsFault) → s ≡ t → room_of u ≡ room_of v → SameLenders v u →
+    Ends (tree_module s) (tree_text s) (tree_rows s) u (Err full) w → Hold (room_of w) nothing x → SameLenders w x →
+    Analysed (tree_module t) (room_of v) (cjs_outcome (room_of v) (tree_text t) (tree_rows t)) (Err full) x × SameLenders v x
+refused v u w x t s (Full n j) q room l e cleared k =
+    let same : cjs_outcome (room_of v) (tree_text t) (tree_rows t) ≡ Err j = (λ i. cjs_outcome (sym room i) (tree_text (sym q i)) (tree_rows (sym q i))) ∙ e.1.outcome in
+    let holds : Hold (room_of v) nothing x = subst (λ r. Hold r nothing x) (e.1.room ∙ room) cleared in
+    (analysed_err (tree_module t) n (room_of v) (cjs_outcome (room_of v) (tree_text t) (tree_rows t)) j x same (e.0 ∙ ap tree_module q) holds, lenders_on v w x (lenders_on v u w l e.1.lenders) k)

@@ -1,5 +1,6 @@
 mod Steps
 mod Look
+mod Moving
 mod Onward
 mod Right
 mod Entered

@@ -1,14 +1,19 @@
 -- A loop over siblings that enters an event for each.
-use Rattle.std.proofs.Common.{◌≡◌, ℕ, Bool, true, false, cond, List, [], ◌∷◌, ◌++◌, Some, None, Option, sym, refl, ap, ◌∙◌, subst}
-use Rattle.tree.specs.declared.row.Row.{Row}
-use Rattle.tree.specs.Forest.{children, since, siblings}
+use Rattle.std.proofs.Common.{◌≡◌, ℕ, Bool, true, false, cond, List, [], ◌∷◌, ◌++◌, Some, None, Option, Result, sym, refl, ap, ◌∙◌, subst}
+use Rattle.table.specs.declared.table.Full.{Full}
+use Rattle.tree.specs.declared.node.Children.{Children}
+use Rattle.tree.specs.declared.node.Node.{Node as TreeNode}
+use Rattle.tree.specs.Children.{Comes, left}
+use Rattle.tree.specs.Forest.{Forest, nil}
 use Rattle.findings.specs.Tables.{Found, Room, SameLenders, room_of}
 use Rattle.findings.specs.declared.tables.FindingsTables.{FindingsTables}
 use Rattle.cjs_law.specs.declared.event.Event.{Event}
 use Rattle.cjs_law.specs.Events.{each, once}
 use Rattle.cjs_law.specs.Findings.{fits}
-use Rattle.cjs_rules.specs.Nodes.{Node, node_at}
+use Rattle.cjs_rules.specs.Nodes.{Node, here}
+use Rattle.cjs_parse.specs.Moving.{MovesOn}
 use Rattle.cjs_parse.specs.State.{Moved, Sound, Stuck, apply, goes, state}
+use Rattle.cjs_parse.specs.declared.walk.Walk.{Walk}
 use Rattle.cjs_parse.proofs.Steps.{lenders_on, own_lenders}
 
 module _ (T : List ℕ) (k : Room) where
@@ -35,42 +40,65 @@ moved_append T v w es fs m = goes_append T (room_of v) es fs (state v) ∙ ap (�
 stuck_append : (T : List ℕ) (v w : FindingsTables) (es fs : List Event) → Stuck T v es w → goes T (room_of v) (es ++ fs) (state v) ≡ None
 stuck_append T v w es fs s = goes_append T (room_of v) es fs (state v) ∙ ap (λ o. then T (room_of v) o fs) s.full
 
--- what the tables were to take in for all the children of row j is what they are to take in for those that are left
-pub record Onward (T : List ℕ) (one : Node → Option Event) (rs : List Row) (j : ℕ) (v w : FindingsTables) (next : Option ℕ) : Type 0 where
-  pub sound : Sound T w
-  pub room : room_of w ≡ room_of v
-  pub lenders : SameLenders v w
-  pub onward : goes T (room_of v) (each one (children rs j)) (state v) ≡ goes T (room_of v) (each one (since rs j next)) (state w)
+-- what the tables were to take in for some nodes is what they are to take in for those that are left
+pub record Onward (one : Node → Option Event) (v w : Walk) (all rest : Forest) : Type 0 where
+  pub text : w.text.now ≡ v.text.now
+  pub name : w.tables.ghost_name ≡ v.tables.ghost_name
+  pub room : room_of w.tables.now ≡ room_of v.tables.now
+  pub lenders : SameLenders v.tables.now w.tables.now
+  pub onward : goes v.text.now (room_of v.tables.now) (each one all) (state v.tables.now) ≡ goes v.text.now (room_of v.tables.now) (each one rest) (state w.tables.now)
 
-module _ (T : List ℕ) (one : Node → Option Event) (rs : List Row) (j : ℕ) (v : FindingsTables) where
-  pub onward_first : (next : Option ℕ) → Sound T v → children rs j ≡ since rs j next → Onward T one rs j v v next
-  onward_first next s e = record { sound = s; room = refl; lenders = own_lenders v; onward = ap (λ f. goes T (room_of v) (each one f) (state v)) e }
+pub onward_first : (one : Node → Option Event) (v : Walk) (all : Forest) → Onward one v v all all
+onward_first one v all = record { text = refl; name = refl; room = refl; lenders = own_lenders v.tables.now; onward = refl }
 
-  pub onward_step : (w u : FindingsTables) (p : ℕ) (next : Option ℕ) (e : Option Event) → Onward T one rs j v w (Some p) → e ≡ one (node_at rs p) → Moved T w (once e) u → siblings rs p j ≡ since rs j next → Onward T one rs j v u next
-  onward_step w u p next e o is m rest =
-      let more = each one (siblings rs p j) in
+module _ (one : Node → Option Event) (v w u : Walk) (all : Forest) (s t : Children) (n : TreeNode) (e : Option Event) (o : Onward one v w all (left s)) (c : Comes s n t) (is : e ≡ one (here n)) where
+  abbrev T : List ℕ
+  T = v.text.now
+
+  abbrev more : List Event
+  more = each one (left t)
+
+  next_is : goes T (room_of v.tables.now) (each one all) (state v.tables.now) ≡ goes T (room_of v.tables.now) (once e ++ more) (state w.tables.now)
+  next_is =
+      o.onward
+      ∙ ap (λ f. goes T (room_of v.tables.now) (each one f) (state w.tables.now)) c.first
+      ∙ ap (λ x. goes T (room_of v.tables.now) (once x ++ more) (state w.tables.now)) (sym is)
+
+  pub onward_step : (u.text.now ≡ w.text.now) × (u.tables.ghost_name ≡ w.tables.ghost_name) × Moved w.text.now w.tables.now (once e) u.tables.now → Onward one v u all (left t)
+  onward_step m =
+      let moved : Moved T w.tables.now (once e) u.tables.now = subst (λ S. Moved S w.tables.now (once e) u.tables.now) o.text m.2 in
       record {
-        sound = m.sound;
-        room = m.room ∙ o.room;
-        lenders = lenders_on v w u o.lenders m.lenders;
-        onward =
-            o.onward
-            ∙ ap (λ x. goes T (room_of v) (once x ++ more) (state w)) (sym is)
-            ∙ subst (λ k. goes T k (once e ++ more) (state w) ≡ goes T k more (state u)) o.room (moved_append T w u (once e) more m)
-            ∙ ap (λ f. goes T (room_of v) (each one f) (state u)) rest;
+        text = m.0 ∙ o.text;
+        name = m.1 ∙ o.name;
+        room = moved.room ∙ o.room;
+        lenders = lenders_on v.tables.now w.tables.now u.tables.now o.lenders moved.lenders;
+        onward = next_is ∙ subst (λ k. goes T k (once e ++ more) (state w.tables.now) ≡ goes T k more (state u.tables.now)) o.room (moved_append T w.tables.now u.tables.now (once e) more moved);
       }
 
-  pub onward_stuck : (w u : FindingsTables) (p : ℕ) (e : Option Event) → Onward T one rs j v w (Some p) → e ≡ one (node_at rs p) → Stuck T w (once e) u → Stuck T v (each one (children rs j)) u
-  onward_stuck w u p e o is s =
-      let more = each one (siblings rs p j) in
-      record {
-        full =
-            o.onward
-            ∙ ap (λ x. goes T (room_of v) (once x ++ more) (state w)) (sym is)
-            ∙ subst (λ k. goes T k (once e ++ more) (state w) ≡ None) o.room (stuck_append T w u (once e) more s);
-        room = s.room ∙ o.room;
-        lenders = lenders_on v w u o.lenders s.lenders;
-      }
+  pub onward_stuck : (u.text.now ≡ w.text.now) × (u.tables.ghost_name ≡ w.tables.ghost_name) × Stuck w.text.now w.tables.now (once e) u.tables.now → (u.text.now ≡ v.text.now) × (u.tables.ghost_name ≡ v.tables.ghost_name) × Stuck v.text.now v.tables.now (each one all) u.tables.now
+  onward_stuck m =
+      let stuck : Stuck T w.tables.now (once e) u.tables.now = subst (λ S. Stuck S w.tables.now (once e) u.tables.now) o.text m.2 in (
+        m.0 ∙ o.text,
+        m.1 ∙ o.name,
+        record {
+          full = next_is ∙ subst (λ k. goes T k (once e ++ more) (state w.tables.now) ≡ None) o.room (stuck_append T w.tables.now u.tables.now (once e) more stuck);
+          room = stuck.room ∙ o.room;
+          lenders = lenders_on v.tables.now w.tables.now u.tables.now o.lenders stuck.lenders;
+        },
+      )
 
-  pub onward_done : (w : FindingsTables) → Onward T one rs j v w None → Moved T v (each one (children rs j)) w
-  onward_done w o = record { to = o.onward ∙ goes_none T (room_of v) (state w); room = o.room; lenders = o.lenders; sound = o.sound }
+pub onward_done : (one : Node → Option Event) (v w : Walk) (all rest : Forest) → Onward one v w all rest → rest ≡ nil → (w.text.now ≡ v.text.now) × (w.tables.ghost_name ≡ v.tables.ghost_name) × Moved v.text.now v.tables.now (each one all) w.tables.now
+onward_done one v w all rest o e = (
+  o.text,
+  o.name,
+  record {
+    to = o.onward ∙ ap (λ f. goes v.text.now (room_of v.tables.now) (each one f) (state w.tables.now)) e ∙ goes_none v.text.now (room_of v.tables.now) (state w.tables.now);
+    room = o.room;
+    lenders = o.lenders;
+    sound = subst (λ S. Sound S w.tables.now) o.text w.sound;
+  },
+)
+
+-- the same for other words of the question and the nodes
+pub asked_as : (one two : Node → Option Event) (f g : Forest) (v w : Walk) (r : Result (Unit {0}) Full) → one ≡ two → f ≡ g → MovesOn v (each one f) r w → MovesOn v (each two g) r w
+asked_as one two f g v w r e h m = subst (λ h. MovesOn v (each two h) r w) h (subst (λ k. MovesOn v (each k f) r w) e m)

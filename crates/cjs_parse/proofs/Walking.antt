@@ -1,15 +1,24 @@
 -- The walk from one row to the next.
 use Rattle.std.proofs.Common.{◌≡◌, ℕ, ◌+◌, ◌<◌, ◌≤◌, Bool, true, false, cond, List, [], ◌∷◌, ◌++◌, length, Ok, sym, refl, ap, ◌∙◌, subst, append_assoc, arith}
 use Rattle.tree.specs.declared.row.Row.{Row}
+use Rattle.tree.specs.declared.node.Node.{Node as TreeNode}
+use Rattle.tree.specs.declared.tree.Tree.{Tree}
+use Rattle.tree.specs.Children.{row_of}
+use Rattle.tree.specs.Subject.{tree_rows, tree_text}
 use Rattle.tree.specs.Forest.{Forest, Nested, children, end_at, forest, nil, node, row_at}
 use Rattle.tree.proofs.Grown.{forest_none}
-use Rattle.tree.proofs.Split.{append, forest_at, forest_on}
+use Rattle.tree.proofs.Split.{append, forest_at, forest_on, nested_of}
 use Rattle.findings.specs.Tables.{Found, SameLenders, nothing, room_of}
 use Rattle.findings.specs.declared.tables.FindingsTables.{FindingsTables}
 use Rattle.cjs_law.specs.declared.event.Event.{Event}
 use Rattle.cjs_law.specs.Events.{events}
 use Rattle.cjs_law.specs.Findings.{held, outcome, outcome_after, safe}
 use Rattle.cjs_law.specs.Walk.{Act, Visit, acts_at, acts_from, acts_of, bound, skips, walked}
+use Rattle.cjs_rules.specs.Nodes.{section}
+use Rattle.cjs_parse.specs.declared.visited.Visited.{Visited}
+use Rattle.cjs_parse.specs.declared.walk.Walk.{Walk}
+use Rattle.cjs_parse.specs.Moving.{bound_by}
+use Rattle.cjs_parse.specs.Visited.{Comes}
 use Rattle.cjs_parse.specs.State.{Finished, GaveUp, Moved, Sound, Stuck, after, goes, look, state}
 use Rattle.cjs_parse.proofs.Entered.{Told, told}
 use Rattle.cjs_parse.proofs.Named.{bound_held}
@@ -112,3 +121,33 @@ module _ (T : List ℕ) (rs : List Row) (v : FindingsTables) where
         lenders = g.lenders;
         sound = g.sound;
       }
+
+-- the same by the nodes that the walk comes to
+module _ (t : Tree) (v : FindingsTables) (w u : Walk) (s then : Visited) (n : TreeNode) (e : s.tree.now ≡ t) (x : w.text.now ≡ tree_text t) (g : Going (tree_text t) (tree_rows t) v w.tables.now s.next) (c : Comes s n then) where
+  abbrev asked_by : List Event
+  asked_by = events (section n) (bound_by w) (row_of n) (children (tree_rows n.tree.now) n.row)
+
+  abbrev asked_at : List Event
+  asked_at = events (tree_text t) (look (tree_text t) (state w.tables.now).bindings) (row_at (tree_rows t) s.next) (children (tree_rows t) s.next)
+
+  asked_same : asked_by ≡ asked_at
+  asked_same =
+      let in_tree : n.tree.now ≡ t = c.tree ∙ e in
+      λ i. events (tree_text (in_tree i)) (look (x i) (state w.tables.now).bindings) (row_at (tree_rows (in_tree i)) (c.row i)) (children (tree_rows (in_tree i)) (c.row i))
+
+  inside : s.next < length (tree_rows t)
+  inside = subst (λ (k : Tree). s.next < length (tree_rows k)) e c.inside
+
+  pub walked_on : (u.text.now ≡ w.text.now) × (u.tables.ghost_name ≡ w.tables.ghost_name) × Moved w.text.now w.tables.now asked_by u.tables.now → Going (tree_text t) (tree_rows t) v u.tables.now then.next
+  walked_on m =
+      let moved : Moved (tree_text t) w.tables.now asked_at u.tables.now = subst (λ S. Moved S w.tables.now asked_at u.tables.now) x (subst (λ es. Moved w.text.now w.tables.now es u.tables.now) asked_same m.2) in
+      let next : then.next ≡ after (tree_rows t) s.next = c.next ∙ ap (λ (k : Tree). after (tree_rows k) s.next) e in
+      subst (Going (tree_text t) (tree_rows t) v u.tables.now) (sym next) (going_on (tree_text t) (tree_rows t) v (nested_of t) w.tables.now u.tables.now s.next inside g moved)
+
+  pub gave_up_at : (j : ℕ) → j ≡ n.row → (u.text.now ≡ w.text.now) × (u.tables.ghost_name ≡ w.tables.ghost_name) × Stuck w.text.now w.tables.now asked_by u.tables.now → GaveUp (tree_text t) (tree_rows t) v j u.tables.now
+  gave_up_at j q m =
+      let stuck : Stuck (tree_text t) w.tables.now asked_at u.tables.now = subst (λ S. Stuck S w.tables.now asked_at u.tables.now) x (subst (λ es. Stuck w.text.now w.tables.now es u.tables.now) asked_same m.2) in
+      subst (λ i. GaveUp (tree_text t) (tree_rows t) v i u.tables.now) (sym (q ∙ c.row)) (gave_up (tree_text t) (tree_rows t) v (nested_of t) w.tables.now u.tables.now s.next inside g stuck)
+
+pub walked_all : (t : Tree) (v : FindingsTables) (w : FindingsTables) (s : Visited) → s.tree.now ≡ t → Going (tree_text t) (tree_rows t) v w s.next → length (tree_rows s.tree.now) ≤ s.next → Finished (tree_text t) (tree_rows t) v w
+walked_all t v w s e g h = finished (tree_text t) (tree_rows t) v (nested_of t) w s.next (subst (λ (k : Tree). length (tree_rows k) ≤ s.next) e h) g

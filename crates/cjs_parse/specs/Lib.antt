@@ -1,2 +1,5 @@
 pub mod State
+pub mod Bound
+pub mod Moving
+pub mod Visited
 pub mod Outcome

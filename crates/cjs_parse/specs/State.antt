@@ -9,6 +9,8 @@ use Rattle.table.specs.declared.table.Full.{Full}
 use Rattle.text.specs.Reading.{order}
 use Rattle.text.specs.declared.place.Place.{Place}
 use Rattle.findings.specs.Tables.{Found, Room, SameLenders, room_of}
+use Rattle.findings.specs.declared.refusal.FindingsFault.{FindingsFault}
+use Rattle.findings.specs.declared.refusal.FindingsFault.TheVariants.{Full as Refused}
 use Rattle.findings.specs.declared.tables.FindingsTables.{FindingsTables}
 use Rattle.cjs_law.specs.declared.event.Event.{Event}
 use Rattle.cjs_law.specs.declared.event.Event.TheVariants.{Bind, Export, Reexport, Replace, Unsafe}
@@ -87,6 +89,7 @@ pub record GaveUp (T : List ℕ) (rs : List Row) (v : FindingsTables) (j : ℕ) 
   pub room : room_of w ≡ room_of v
   pub lenders : SameLenders v w
 
-abbrev pub Ends : List ℕ → List Row → FindingsTables → Result (Unit {0}) ℕ → FindingsTables → Type 0
-Ends T rs v (Ok _) w = Finished T rs v w
-Ends T rs v (Err j) w = GaveUp T rs v j w
+-- the walk over the rows of a module's tree ends, or is refused
+abbrev pub Ends : ℕ → List ℕ → List Row → FindingsTables → Result (Unit {0}) FindingsFault → FindingsTables → Type 0
+Ends m T rs v (Ok _) w = Finished T rs v w
+Ends m T rs v (Err (Refused n j)) w = (n ≡ m) × GaveUp T rs v j w

@@ -1,12 +1,12 @@
-use Rattle.std.proofs.Common.{◌≡◌, Ok, Err, sym, ap, ◌∙◌, subst}
+use Rattle.std.proofs.Common.{◌≡◌, Ok, sym, ◌∙◌, subst}
 use Rattle.tree.specs.Subject.{tree_module, tree_rows, tree_text}
-use Rattle.findings.specs.Tables.{Hold, nothing, room_of}
+use Rattle.findings.specs.Tables.{Hold, room_of}
 use Rattle.cjs_law.specs.Findings.{safe}
 use Rattle.cjs_law.proofs.Said.{acts_decide_the_lists}
 use Rattle.cjs_law.proofs.Walked.{walk_reaches_what_is_not_skipped}
 use Rattle.cjs_parse.specs.Outcome.{cjs_outcome}
 use Rattle.cjs_parse.specs.State.{state}
-use Rattle.cjs_parse.proofs.Cleared.{analysed_err, analysed_ok, cleared_room, cleared_sound, cleared_state}
+use Rattle.cjs_parse.proofs.Cleared.{analysed_ok, cleared_room, cleared_sound, cleared_state, refused}
 use Rattle.cjs_parse.proofs.Steps.{lenders_on}
 use Rattle.cjs_parse.proofs.analysis.analyze_cjs.Goals as goal
 
@@ -42,15 +42,11 @@ returns-in-Err c =
     let u = c.clear.new.self in
     let w = c.walk.new.tables in
     let x = c.clear-in-Err.new.self in
-    let t = c.args.program.tree.now in
-    let s = c.tree-tree.result.now in
-    let e = c.in-Err.ensures in
     let room : room_of u ≡ room_of v = cleared_room (room_of v) u c.clear.ensures.cleared in
-    let same : cjs_outcome (room_of v) (tree_text t) (tree_rows t) ≡ Err c.in-Err.row = (λ i. cjs_outcome (sym room i) (tree_text (sym c.tree-tree.ensures i)) (tree_rows (sym c.tree-tree.ensures i))) ∙ e.outcome in
-    let holds : Hold (room_of v) nothing x = subst (λ k. Hold k nothing x) (e.room ∙ room) c.clear-in-Err.ensures.cleared in
+    let ends = refused v u w x c.args.program.tree.now c.tree-tree.result.now c.in-Err.full c.tree-tree.ensures room c.clear.ensures.lenders c.in-Err.ensures c.clear-in-Err.ensures.cleared c.clear-in-Err.ensures.lenders in
     record {
-      analysed = analysed_err (tree_module t) c.module-module.result (room_of v) (cjs_outcome (room_of v) (tree_text t) (tree_rows t)) c.in-Err.row x same (c.module-module.ensures ∙ ap tree_module c.tree-tree.ensures) holds;
-      lenders = lenders_on v w x (lenders_on v u w c.clear.ensures.lenders e.lenders) c.clear-in-Err.ensures.lenders;
+      analysed = ends.0;
+      lenders = ends.1;
       walk = walk_reaches_what_is_not_skipped;
       lists = acts_decide_the_lists;
     }

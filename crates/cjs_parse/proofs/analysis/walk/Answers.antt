@@ -1,33 +1,28 @@
-use Rattle.std.proofs.Common.{◌<◌, ◌≤◌, length, sym, subst, arith}
+-- `c.tables-1` and `c.tables-in-Err-1` are what is given back to `tables` where `walk` ends: the tables that `walk` still lends.
+use Rattle.std.proofs.Common.{sym, ◌∙◌, subst}
 use Rattle.tree.specs.Subject.{tree_rows, tree_text}
-use Rattle.tree.proofs.Split.{nested_of}
-use Rattle.cjs_parse.proofs.Walking.{Going, after_rises, finished, gave_up, going_first, going_on}
+use Rattle.cjs_parse.specs.State.{Finished, GaveUp}
+use Rattle.cjs_parse.proofs.Walking.{gave_up_at, walked_all, walked_on}
 use Rattle.cjs_parse.proofs.analysis.walk.Goals as goal
 
-pub loop-j-init : goal.loop-j-init
-loop-j-init c = going_first (tree_text c.args.tree.now) (tree_rows c.args.tree.now) c.args.tables.now c.requires.sound c.requires.empty
+pub loop-node-preserved : goal.loop-node-preserved
+loop-node-preserved c =
+    let inv = c.loop-node.invariant in
+    let steps = c.in-Some.ensures.steps in
+    let m = c.in-Ok.ensures in
+    (tt, tt, steps.same ∙ inv.2, m.0 ∙ inv.3, m.1 ∙ inv.4, walked_on c.args.tree.now c.args.tables.now c.loop-node.walk c.visit.new.self c.loop-node.node-iterator c.next.new.self c.in-Some.node inv.2 inv.3 inv.5 steps m)
 
 pub returns-in-Err : goal.returns-in-Err
 returns-in-Err c =
     let t = c.args.tree.now in
-    let h : c.loop-j.j < length (tree_rows t) = omega arith in
-    gave_up (tree_text t) (tree_rows t) c.args.tables.now (nested_of t) c.loop-j.tables c.visit.new.tables c.loop-j.j h c.loop-j.invariant c.in-Err.ensures
-
-pub loop-j-smaller : goal.loop-j-smaller
-loop-j-smaller c =
-    let t = c.args.tree.now in
-    let h : c.loop-j.j < length (tree_rows t) = omega arith in
-    let up = after_rises (tree_rows t) (nested_of t) c.loop-j.j h in
-    omega arith
-
-pub loop-j-preserved : goal.loop-j-preserved
-loop-j-preserved c =
-    let t = c.args.tree.now in
-    let h : c.loop-j.j < length (tree_rows t) = omega arith in
-    subst (Going (tree_text t) (tree_rows t) c.args.tables.now c.visit.new.tables) (sym c.next_row-j.ensures) (going_on (tree_text t) (tree_rows t) c.args.tables.now (nested_of t) c.loop-j.tables c.visit.new.tables c.loop-j.j h c.loop-j.invariant c.in-Ok.ensures)
+    let inv = c.loop-node.invariant in
+    let m = c.in-Err.ensures in
+    let given = c.tables-in-Err-1.given.1 (sym (m.1 ∙ inv.4)) in
+    (c.module-module.ensures, subst (GaveUp (tree_text t) (tree_rows t) c.args.tables.now c.row-row.result) (sym given) (gave_up_at t c.args.tables.now c.loop-node.walk c.visit.new.self c.loop-node.node-iterator c.next.new.self c.in-Some.node inv.2 inv.3 inv.5 c.in-Some.ensures.steps c.row-row.result c.row-row.ensures m))
 
 pub returns : goal.returns
 returns c =
     let t = c.args.tree.now in
-    let h : length (tree_rows t) ≤ c.loop-j.j = omega arith in
-    finished (tree_text t) (tree_rows t) c.args.tables.now (nested_of t) c.loop-j.tables c.loop-j.j h c.loop-j.invariant
+    let inv = c.loop-node.invariant in
+    let given = c.tables-1.given.1 (sym inv.4) in
+    subst (Finished (tree_text t) (tree_rows t) c.args.tables.now) (sym given) (walked_all t c.args.tables.now c.loop-node.walk.tables.now c.loop-node.node-iterator inv.2 inv.5 c.in-None.ensures.steps)

@@ -1,6 +1,0 @@
-use Rattle.std.proofs.Common.{◌-◌, length}
-use Rattle.tree.specs.Subject.{tree_rows}
-use Rattle.cjs_parse.proofs.perform.+visit_exports_right_expr.Given as goal
-
-abbrev pub decreases-visit_exports_right_expr : goal.decreases-visit_exports_right_expr
-decreases-visit_exports_right_expr l = length (tree_rows l.tree.now) - l.j
