@@ -1,2 +1,3 @@
-mod Blocks
 mod Parts
+mod Shown
+mod Told

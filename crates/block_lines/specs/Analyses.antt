@@ -6,8 +6,6 @@ use Rattle.findings.specs.Script.{is_script}
 use Rattle.findings.specs.Tables.{Analysed, Found, Room, room_of}
 use Rattle.findings.specs.declared.tables.FindingsTables.{FindingsTables}
 use Rattle.tree.specs.Block.{rows, text}
-use Rattle.tree.specs.Subject.{tree_module, tree_rows, tree_text}
-use Rattle.tree.specs.declared.tree.Tree.{Tree}
 use Rattle.tree.specs.Verdict.{Lawful, Verdict, describe}
 use Rattle.tree.specs.declared.refusal.TreeFault.{TreeFault}
 use Rattle.block_lines.specs.declared.analyses.Analyses.{Analyses}
@@ -18,13 +16,6 @@ cjs_of room block = cjs_outcome room (text block) (rows block)
 
 abbrev pub es_of : Room → List ℕ → Result Found ℕ
 es_of room block = es_outcome room (rows block)
-
--- the same of a tree
-pub record TreeAnalysis (tree : Tree) (s t : FindingsTables) (a : Analyses) (s' t' : FindingsTables) : Type 0 where
-  pub text_is : a.text.now ≡ tree_text tree
-  pub script_is : a.is_script ≡ is_script (tree_rows tree)
-  pub cjs_is : Analysed (tree_module tree) (room_of s) (cjs_outcome (room_of s) (tree_text tree) (tree_rows tree)) a.cjs s'
-  pub es_is : Analysed (tree_module tree) (room_of t) (es_outcome (room_of t) (tree_rows tree)) a.es t'
 
 -- the block is lawful; the script test is that of its rows, and each analysis fills its own tables, which were s and t
 pub record Analysis (m : ℕ) (block : List ℕ) (s t : FindingsTables) (a : Analyses) (s' t' : FindingsTables) : Type 0 where

@@ -1,5 +1,5 @@
 -- The lines of a block: what `findings` and `answers` print for it.
-use Rattle.std.specs.Prelude.{◌≡◌, ℕ, Bool, cond, List, ◌++◌, take, Some, None, Ok, Err, codes, Option, Result}
+use Rattle.std.specs.Prelude.{◌≡◌, ℕ, Bool, cond, List, ◌++◌, take, Some, Ok, Err, codes, Option, Result, refl}
 use Rattle.fault.specs.Line.{fault_line}
 use Rattle.fault.specs.declared.Fault.{Fault}
 use Rattle.findings.specs.Script.{is_script}
@@ -14,13 +14,8 @@ use Rattle.text.specs.declared.place.Place.{Place}
 use Rattle.tree.specs.Block.{rows, text}
 use Rattle.tree.specs.Verdict.{Lawful, Verdict}
 use Rattle.block_lines.specs.Analyses.{cjs_of, es_of}
-use Rattle.block_lines.specs.declared.line.AnswersLine.{AnswersLine}
-use Rattle.block_lines.specs.declared.line.AnswersLine.TheVariants as answers
-use Rattle.block_lines.specs.declared.line.FindingsLine.{FindingsLine}
-use Rattle.block_lines.specs.declared.line.FindingsLine.TheVariants as findings
+use Rattle.block_lines.specs.declared.line.Report.{Report}
 use Rattle.block_lines.specs.declared.line.Names.{Names}
-use Rattle.block_lines.specs.declared.line.Part.{Part}
-use Rattle.block_lines.specs.declared.line.Part.TheVariants as part
 
 -- 1 for a script, else 0
 abbrev pub digit : Bool → List ℕ
@@ -53,21 +48,43 @@ pub data AnswersText (m : ℕ) (cjs es : Room) (block : List ℕ) : List ℕ →
 
 -- the text of a line as it stands in memory
 
-abbrev pub part_text : Part → List ℕ
-part_text (part.Refused f) = fault_line f
-part_text (part.Found l) = lists_text l.bindings.now l.exports.now l.reexports.now l.unsafes.now
+-- what is found by its text, or the fault by its line
+abbrev pub found_or_fault : {T : Type 0} → (T → List ℕ) → Result T Fault → List ℕ
+found_or_fault text (Ok x) = text x
+found_or_fault text (Err f) = fault_line f
 
-abbrev pub findings_text : FindingsLine → List ℕ
-findings_text (findings.Refused f) = fault_line f
-findings_text (findings.Found script cjs es) = digit script ++ (codes " | " ++ (part_text cjs ++ (codes " | " ++ part_text es)))
+-- the same where the text may be unknown
+abbrev pub line_text : {T : Type 0} → (T → Option (List ℕ)) → Result T Fault → Option (List ℕ)
+line_text text (Ok x) = text x
+line_text text (Err f) = Some (fault_line f)
+
+-- it is the same wherever it is known
+pub line_shown : {T : Type 0} (text : T → List ℕ) (r : Result T Fault) → line_text (λ x. Some (text x)) r ≡ Some (found_or_fault text r)
+line_shown text (Ok x) = refl
+line_shown text (Err f) = refl
+
+abbrev pub lists_of : Lists → List ℕ
+lists_of l = lists_text l.bindings.now l.exports.now l.reexports.now l.unsafes.now
+
+abbrev pub part_text : Result Lists Fault → List ℕ
+part_text r = found_or_fault lists_of r
+
+abbrev pub findings_found : Report (Result Lists Fault) → List ℕ
+findings_found x =
+    digit x.is_script ++ (codes " | " ++ (part_text x.cjs ++ (codes " | " ++ part_text x.es)))
+
+abbrev pub findings_text : Result (Report (Result Lists Fault)) Fault → List ℕ
+findings_text r = found_or_fault findings_found r
 
 abbrev pub names_of : Names → List ℕ
 names_of n = names_text n.text.now n.exports.now n.reexports.now
 
-abbrev pub answers_text : AnswersLine → List ℕ
-answers_text (answers.Refused f) = fault_line f
-answers_text (answers.Found script cjs es) =
-    digit script ++ (codes " " ++ (names_of cjs ++ (codes " " ++ names_of es)))
+abbrev pub answers_found : Report Names → List ℕ
+answers_found x =
+    digit x.is_script ++ (codes " " ++ (names_of x.cjs ++ (codes " " ++ names_of x.es)))
+
+abbrev pub answers_text : Result (Report Names) Fault → List ℕ
+answers_text r = found_or_fault answers_found r
 
 -- the rows that four tables hold
 pub record ListsOf (t : FindingsTables) (l : Lists) : Type 0 where
@@ -77,17 +94,11 @@ pub record ListsOf (t : FindingsTables) (l : Lists) : Type 0 where
   pub unsafes : l.unsafes.now ≡ take t.unsafes.len t.unsafes.rows.now
 
 -- what an analysis that answers so comes to, with these tables after it
-abbrev pub PartOf : Result (Unit {0}) FindingsFault → FindingsTables → Part → Type 0
-PartOf (Ok _) t (part.Found l) = ListsOf t l
-PartOf (Ok _) t (part.Refused f) = ⊥
-PartOf (Err e) t (part.Found l) = ⊥
-PartOf (Err e) t (part.Refused f) = f ≡ describe e
-
--- the refusal of the first analysis that is refused
-abbrev pub first_refusal : Result (Unit {0}) FindingsFault → Result (Unit {0}) FindingsFault → Option FindingsFault
-first_refusal (Err e) es = Some e
-first_refusal (Ok _) (Err e) = Some e
-first_refusal (Ok _) (Ok _) = None
+abbrev pub PartOf : Result (Unit {0}) FindingsFault → FindingsTables → Result Lists Fault → Type 0
+PartOf (Ok _) t (Ok l) = ListsOf t l
+PartOf (Ok _) t (Err f) = ⊥
+PartOf (Err e) t (Ok l) = ⊥
+PartOf (Err e) t (Err f) = f ≡ describe e
 
 -- the names that tables hold
 pub record NamesOf (T : List ℕ) (t : FindingsTables) (n : Names) : Type 0 where

@@ -1,6 +1,6 @@
 //! The check of a block, the script test and both analyses.
 ghost use Rattle.std.specs.Prelude.{◌≡◌};
-ghost use Rattle.block_lines.specs.Analyses.{AnalysisOf, TreeAnalysis};
+ghost use Rattle.block_lines.specs.Analyses.{AnalysisOf};
 ghost use Rattle.findings.specs.Tables.{SameLenders};
 
 use cjs_parse::analyze_cjs;
@@ -19,25 +19,6 @@ pub struct Analyses<'a> {
     pub es: Result<(), FindingsFault>,
 }
 
-/// Runs the script test and both analyses of a tree, each with tables of its own.
-fn analyse_tree<'a>(
-    tree: &Tree<'a>,
-    cjs: &mut FindingsTables,
-    es: &mut FindingsTables,
-) -> Analyses<'a>
-    ensures found { TreeAnalysis tree.now cjs.old es.old result cjs.new es.new }
-    ensures cjs { SameLenders cjs.old cjs.new }
-    ensures es { SameLenders es.old es.new }
-{
-    let program = ProgramRef::new(&*tree);
-    Analyses {
-        text: tree.text_section(),
-        is_script: program.compute_is_script(),
-        cjs: analyze_cjs(program, cjs),
-        es: analyze_es_runtime_exports(program, es),
-    }
-}
-
 /// Checks a block of a module, and runs the script test and both analyses, each with tables of its own.
 pub fn analyse<'a>(
     module: u32,
@@ -49,9 +30,12 @@ pub fn analyse<'a>(
     ensures cjs { SameLenders cjs.old cjs.new }
     ensures es { SameLenders es.old es.new }
 {
-    let checked = Tree::check(module, block);
-    match checked.tree() {
-        Ok(tree) => Ok(analyse_tree(tree, cjs, es)),
-        Err(refusal) => Err(refusal),
-    }
+    let tree = Tree::check(module, block)?;
+    let program = ProgramRef::new(&tree);
+    Ok(Analyses {
+        text: tree.text_section(),
+        is_script: program.compute_is_script(),
+        cjs: analyze_cjs(program, cjs),
+        es: analyze_es_runtime_exports(program, es),
+    })
 }

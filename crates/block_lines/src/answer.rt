@@ -1,53 +1,39 @@
 //! From a block to its line.
-ghost use Rattle.std.specs.Prelude.{◌≡◌, ℕ, ◌<◌, List, length, take, Some};
-ghost use Rattle.block_lines.specs.Lines.{AnswersText, FindingsText, NamesOf, PartOf, answers_text, findings_text, first_refusal};
+ghost use Rattle.std.specs.Prelude.{◌≡◌, ℕ, ◌<◌, List, length, Some};
+ghost use Rattle.block_lines.specs.Lines.{AnswersText, FindingsText, NamesOf, PartOf, answers_text, findings_text};
 ghost use Rattle.findings.specs.Tables.{room_of};
 ghost use Rattle.tree.specs.Verdict.{Verdict};
 
 use crate::analyses::analyse;
-use crate::line::{AnswersLine, FindingsLine, Names, Part};
+use crate::line::{AnswersLine, FindingsLine, Names, Part, Report};
 use fault::Fault;
 use findings::{FindingsFault, FindingsTables};
 use lines::Lists;
-use table::OrderedTable;
-use text::Place;
 use tree::TreeFault;
 
 /// The refusal of a block of more than 4,194,304 bytes, whatever they are.
+#[tactic(auto, using(crate::proofs::Told::too_long))]
 pub fn refusal_of_too_long(module: u32) -> Fault
     ensures { (block : List ℕ) → 4194304 < length block → Verdict «module» block (Some result) }
 {
-    TreeFault::Layout { module }.fault()
-}
-
-/// The rows that a table holds.
-fn rows_of<'a, R>(table: &'a OrderedTable<'_, R>) -> &'a [R]
-    ensures { result.now ≡ take table.now.len table.now.rows.now }
-{
-    let rows: &[R] = &*table.rows;
-    if table.len < rows.len() {
-        &rows[0..table.len]
-    } else {
-        rows
-    }
+    TreeFault::Layout { module }.into()
 }
 
 /// What an analysis comes to, whose tables these are.
 fn part_of<'a>(answer: Result<(), FindingsFault>, tables: &'a FindingsTables<'_>) -> Part<'a>
     ensures { PartOf answer tables.now result }
 {
-    match answer {
-        Ok(()) => Part::Found(Lists {
-            bindings: rows_of(&tables.bindings),
-            exports: rows_of(&tables.exports),
-            reexports: rows_of(&tables.reexports),
-            unsafes: rows_of(&tables.unsafes),
-        }),
-        Err(refusal) => Part::Refused(refusal.fault()),
-    }
+    answer?;
+    Ok(Lists {
+        bindings: tables.bindings.held(),
+        exports: tables.exports.held(),
+        reexports: tables.reexports.held(),
+        unsafes: tables.unsafes.held(),
+    })
 }
 
 /// The line of `findings` for a block of a module.
+#[tactic(auto, using(crate::proofs::Told::findings_told))]
 pub fn findings_line<'a>(
     module: u32,
     block: &[u8],
@@ -56,27 +42,12 @@ pub fn findings_line<'a>(
 ) -> FindingsLine<'a>
     ensures { FindingsText «module» (room_of cjs.old) (room_of es.old) block.now (findings_text result) }
 {
-    match analyse(module, block, cjs, es) {
-        Ok(found) => FindingsLine::Found {
-            is_script: found.is_script,
-            cjs: part_of(found.cjs, cjs),
-            es: part_of(found.es, es),
-        },
-        Err(refusal) => FindingsLine::Refused(refusal.fault()),
-    }
-}
-
-/// The refusal of the first analysis that is refused.
-fn first_refusal(
-    cjs: Result<(), FindingsFault>,
-    es: Result<(), FindingsFault>,
-) -> Option<FindingsFault>
-    ensures { result ≡ first_refusal cjs es }
-{
-    match cjs {
-        Err(refusal) => Some(refusal),
-        Ok(()) => es.err(),
-    }
+    let found = analyse(module, block, cjs, es)?;
+    Ok(Report {
+        is_script: found.is_script,
+        cjs: part_of(found.cjs, cjs),
+        es: part_of(found.es, es),
+    })
 }
 
 /// The names that tables hold, as places of a text section.
@@ -85,8 +56,8 @@ fn names_of<'a>(text: &'a [u8], tables: &'a FindingsTables<'_>) -> Names<'a>
 {
     Names {
         text,
-        exports: rows_of(&tables.exports),
-        reexports: rows_of(&tables.reexports),
+        exports: tables.exports.held(),
+        reexports: tables.reexports.held(),
     }
 }
 
@@ -99,15 +70,11 @@ pub fn answers_line<'a>(
 ) -> AnswersLine<'a>
     ensures { AnswersText «module» (room_of cjs.old) (room_of es.old) block.now (answers_text result) }
 {
-    match analyse(module, block, cjs, es) {
-        Ok(found) => match first_refusal(found.cjs, found.es) {
-            Some(refusal) => AnswersLine::Refused(refusal.fault()),
-            None => AnswersLine::Found {
-                is_script: found.is_script,
-                cjs: names_of(found.text, cjs),
-                es: names_of(found.text, es),
-            },
-        },
-        Err(refusal) => AnswersLine::Refused(refusal.fault()),
-    }
+    let found = analyse(module, block, cjs, es)?;
+    found.cjs.and(found.es)?;
+    Ok(Report {
+        is_script: found.is_script,
+        cjs: names_of(found.text, cjs),
+        es: names_of(found.text, es),
+    })
 }

@@ -7,4 +7,4 @@ mod line;
 
 pub use analyses::{Analyses, analyse};
 pub use answer::refusal_of_too_long;
-pub use line::{AnswersLine, FindingsLine, Names, Part};
+pub use line::{AnswersLine, FindingsLine, Line, Names, Part, Report};

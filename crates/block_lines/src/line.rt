@@ -1,29 +1,27 @@
 //! The lines that the program prints for a block.
-ghost use Rattle.std.specs.Prelude.{◌≡◌, Some};
-ghost use Rattle.block_lines.specs.Lines.{answers_text, digit, findings_text, names_text, part_text};
+ghost use Rattle.std.specs.Prelude.{Some};
+ghost use Rattle.block_lines.specs.Lines.{answers_found, findings_found, line_text, names_of};
 
 use fault::Fault;
-use findings::{FindingsFault, FindingsTables};
-use lines::{Lists, LooseTexts};
+use lines::{ByTexts, Lists, LooseTexts};
 use std::fmt;
 use text::Place;
 
-/// What one analysis comes to: its refusal, or its four lists.
-#[derive(Clone, Copy)]
-pub enum Part<'a> {
-    Refused(Fault),
-    Found(Lists<'a>),
-}
+/// What one analysis comes to: its four lists, or its refusal.
+pub type Part<'a> = Result<Lists<'a>, Fault>;
 
-/// The line of `findings` for a block.
+/// What `findings` says of a block: both analyses, or the refusal of the block.
+pub type FindingsLine<'a> = Result<Report<Part<'a>>, Fault>;
+
+/// What `answers` says of a block: the names of both analyses, or the first refusal.
+pub type AnswersLine<'a> = Result<Report<Names<'a>>, Fault>;
+
+/// What is said of a lawful block: the script test, and what each analysis comes to.
 #[derive(Clone, Copy)]
-pub enum FindingsLine<'a> {
-    Refused(Fault),
-    Found {
-        is_script: bool,
-        cjs: Part<'a>,
-        es: Part<'a>,
-    },
+pub struct Report<T> {
+    pub is_script: bool,
+    pub cjs: T,
+    pub es: T,
 }
 
 /// Exports and re-exports by their texts, as places of a text section.
@@ -34,75 +32,56 @@ pub struct Names<'a> {
     pub reexports: &'a [Place],
 }
 
-/// The line of `answers` for a block.
+/// The line of what is found, or of the fault that it is refused for.
 #[derive(Clone, Copy)]
-pub enum AnswersLine<'a> {
-    Refused(Fault),
-    Found {
-        is_script: bool,
-        cjs: Names<'a>,
-        es: Names<'a>,
-    },
-}
+pub struct Line<T>(pub Result<T, Fault>);
 
-/// 1 for a script, else 0.
-fn digit_of(is_script: bool) -> &'static str
-    ensures { result.now ≡ digit is_script }
-{
-    if is_script { "1" } else { "0" }
-}
-
-impl fmt::Display for Part<'_> {
-    ghost output = { λ x. Some (part_text x) };
+impl<T: fmt::Display> fmt::Display for Line<T> {
+    ghost output = { λ x. line_text T.output x.0 };
 
     fn fmt<W: fmt::Write>(&self, f: &mut fmt::Formatter<W>) -> fmt::Result {
-        match *self {
-            Part::Refused(fault) => write!(f, "{fault}"),
-            Part::Found(lists) => write!(f, "{lists}"),
+        match &self.0 {
+            Ok(found) => found.fmt(f),
+            Err(fault) => fault.fmt(f),
         }
     }
 }
 
-impl fmt::Display for FindingsLine<'_> {
-    ghost output = { λ x. Some (findings_text x) };
+impl fmt::Display for Report<Part<'_>> {
+    ghost output = { λ x. Some (findings_found x) };
 
+    #[tactic(auto, using(crate::proofs::Shown::script_digit, crate::proofs::Shown::part_shown))]
     fn fmt<W: fmt::Write>(&self, f: &mut fmt::Formatter<W>) -> fmt::Result {
-        match *self {
-            FindingsLine::Refused(fault) => write!(f, "{fault}"),
-            FindingsLine::Found { is_script, cjs, es } => {
-                let script = digit_of(is_script);
-                write!(f, "{script} | {cjs} | {es}")
-            }
-        }
+        let script = u8::from(self.is_script);
+        let cjs = Line(self.cjs);
+        let es = Line(self.es);
+        write!(f, "{script} | {cjs} | {es}")
     }
 }
 
 impl fmt::Display for Names<'_> {
-    ghost output = { λ x. Some (names_text x.text.now x.exports.now x.reexports.now) };
+    ghost output = { λ x. Some (names_of x) };
 
     fn fmt<W: fmt::Write>(&self, f: &mut fmt::Formatter<W>) -> fmt::Result {
+        let manner = ByTexts { text: self.text };
         let exports = LooseTexts {
-            text: self.text,
+            manner,
             rows: self.exports,
         };
         let reexports = LooseTexts {
-            text: self.text,
+            manner,
             rows: self.reexports,
         };
         write!(f, "{exports} {reexports}")
     }
 }
 
-impl fmt::Display for AnswersLine<'_> {
-    ghost output = { λ x. Some (answers_text x) };
+impl fmt::Display for Report<Names<'_>> {
+    ghost output = { λ x. Some (answers_found x) };
 
+    #[tactic(auto, using(crate::proofs::Shown::script_digit))]
     fn fmt<W: fmt::Write>(&self, f: &mut fmt::Formatter<W>) -> fmt::Result {
-        match *self {
-            AnswersLine::Refused(fault) => write!(f, "{fault}"),
-            AnswersLine::Found { is_script, cjs, es } => {
-                let script = digit_of(is_script);
-                write!(f, "{script} {cjs} {es}")
-            }
-        }
+        let script = u8::from(self.is_script);
+        write!(f, "{script} {} {}", self.cjs, self.es)
     }
 }

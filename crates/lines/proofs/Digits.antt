@@ -1,18 +1,8 @@
--- Hexadecimal digits as characters.
-use Rattle.std.proofs.Common.{◌≡◌, ℕ, ◌+◌, ◌<◌, Bool, true, false, cond, ltb, [], ◌∷◌, ◌++◌, ap, ◌∙◌, arith}
-use lib.Utf8.{encode}
-use Rattle.std.proofs.lemmas.Str.Ascii.{encode_ascii}
-use Rattle.lines.specs.Texts.{hex_digit}
+-- The two hexadecimal digits of a byte, as `{:02x}` writes them.
+use Rattle.std.proofs.Common.{◌≡◌, ℕ, ◌<◌, ◌^◌, ◌-◌, false, [], ◌∷◌, Some, option_map, ap, ◌∙◌}
+use Rattle.std.specs.Fmt.{digits, digits_output, format_spec, padded_integral, radix_prefix, shown_prefix, styled_digits_output}
+use Rattle.std.proofs.lemmas.Fmt.{hex_byte}
+use Rattle.lines.specs.Texts.{hex_bytes}
 
-digit_is_ascii : (n : ℕ) → n < 16 → hex_digit n < 128
-digit_is_ascii n h = at (ltb n 10)
-  where
-    at : (t : Bool) → cond t (48 + n) (87 + n) < 128
-    at true = omega arith
-    at false = omega arith
-
-digit_encoded : (n c : ℕ) → n < 16 → c ≡ hex_digit n → encode c ≡ hex_digit n ∷ []
-digit_encoded n c h e = ap encode e ∙ encode_ascii (hex_digit n) (digit_is_ascii n h)
-
-pub two_digits : (m n c d : ℕ) → m < 16 → n < 16 → c ≡ hex_digit m → d ≡ hex_digit n → encode c ++ encode d ≡ hex_digit m ∷ hex_digit n ∷ []
-two_digits m n c d k l p q = λ i. digit_encoded m c k p i ++ digit_encoded n d l q i
+pub byte_shown : (d : _) (s : _) (n : ℕ) → n < 256 → digits_output d ≡ Some (digits 16 false n) → s ≡ format_spec 32 0 4 2 (2 ^ 64 - 1) → styled_digits_output d s ≡ Some (hex_bytes (n ∷ []))
+byte_shown d s n h e k = (λ i. option_map (padded_integral (k i) false (shown_prefix (k i) (radix_prefix d.base))) (e i)) ∙ ap Some (hex_byte false n h)

@@ -1,15 +1,10 @@
 -- The rows of a list that are left to write, one by one.
-use Rattle.std.proofs.Common.{◌≡◌, ℕ, ◌+◌, ◌-◌, ◌<◌, ◌≤◌, List, [], ◌∷◌, ◌++◌, length, get_or, take, drop, Ok, codes, sym, ap, ◌∙◌, subst, arith}
-use Rattle.std.proofs.lemmas.List.{at_drop_all, at_drop_more, take_rest}
+use Rattle.std.proofs.Common.{◌≡◌, ℕ, ◌+◌, ◌<◌, List, ◌++◌, length, get_or, drop, Ok, codes, sym, ap, ◌∙◌, subst}
+use Rattle.std.proofs.lemmas.List.{at_drop_more}
 use Rattle.std.specs.Fmt.{WritesOnOk}
 use Rattle.std.specs.declared.fmt.Formatter.{Formatter}
-use Rattle.lines.specs.Listed.{after_commas, listed}
-use Rattle.lines.proofs.Underway.{Going, one_more, all_of_it}
-
--- the list from its first row on
-pub first_row : {R : Type 0} (text : R → List ℕ) (rows : List R) (row : R) → 0 < length rows → row ≡ get_or rows 0 row → text row ++ after_commas text (take (length rows - 1) (drop 1 rows)) ≡ listed text rows
-first_row text [] row h e = absurd (omega arith)
-first_row text (r ∷ rows) row h e = λ i. text (e i) ++ after_commas text (take_rest (r ∷ rows) 1 i)
+use Rattle.lines.specs.Listed.{after_commas}
+use Rattle.lines.proofs.Underway.{Going, one_more}
 
 module _ {R : Type 0} (text : R → List ℕ) (rows : List R) where
   row_comes : (i : ℕ) (row : R) → i < length rows → row ≡ get_or rows i row → after_commas text (drop i rows) ≡ codes "," ++ (text row ++ after_commas text (drop (i + 1) rows))
@@ -22,7 +17,3 @@ module _ {R : Type 0} (text : R → List ℕ) (rows : List R) where
     row_written i row l e g h k going comma shown =
         let left = after_commas text (drop (i + 1) rows) in
         one_more took f whole h (text row) left k (one_more took f whole g (codes ",") (text row ++ left) h (subst (Going took f whole g) (row_comes i row l e) going) comma) shown
-
-    pub rows_written : (i : ℕ) → length rows ≤ i → (g : Formatter W) → Going took f whole g (after_commas text (drop i rows)) → WritesOnOk took f (Ok tt) whole g
-    rows_written i l g going =
-        all_of_it took f whole g (subst (Going took f whole g) (at_drop_all (after_commas text) rows i l) going)

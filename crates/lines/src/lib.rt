@@ -5,5 +5,6 @@ mod listed;
 mod places;
 mod texts;
 
-pub use places::{Bindings, Lists, Places};
-pub use texts::LooseTexts;
+pub use listed::{Listed, Manner};
+pub use places::{Bindings, ByNumbers, Lists, Places};
+pub use texts::{ByTexts, LooseTexts};

@@ -1,22 +1,21 @@
 //! Places and bindings by their numbers.
-ghost use Rattle.std.specs.Prelude.{Some};
-ghost use Rattle.lines.specs.Places.{binding_text, bindings_text, lists_text, place_text, places_text};
+ghost use Rattle.std.specs.Prelude.{◌≡◌, Some};
+ghost use Rattle.lines.specs.Places.{binding_text, lists_text, place_text};
 
-use crate::listed::{Manner, write_list};
+use crate::listed::{Listed, Manner};
 use std::fmt;
 use table::Binding;
 use text::Place;
 
 /// Rows by their numbers: `OFFSET:LENGTH` for a place, `PLACE=PLACE` for a binding.
-struct ByNumbers;
+#[derive(Clone, Copy)]
+pub struct ByNumbers;
 
 impl Manner<Place> for ByNumbers {
     ghost text = { λ _ place. place_text place };
 
     fn write_row<W: fmt::Write>(&self, row: &Place, f: &mut fmt::Formatter<W>) -> fmt::Result {
-        let offset = row.offset;
-        let length = row.length;
-        write!(f, "{offset}:{length}")
+        write!(f, "{}:{}", row.offset, row.length)
     }
 }
 
@@ -24,41 +23,31 @@ impl Manner<Binding> for ByNumbers {
     ghost text = { λ _ binding. binding_text binding };
 
     fn write_row<W: fmt::Write>(&self, row: &Binding, f: &mut fmt::Formatter<W>) -> fmt::Result {
-        let name = row.name.offset;
-        let name_length = row.name.length;
-        let value = row.value.offset;
-        let value_length = row.value.length;
-        write!(f, "{name}:{name_length}={value}:{value_length}")
+        let Binding { name, value } = *row;
+        write!(
+            f,
+            "{}:{}={}:{}",
+            name.offset, name.length, value.offset, value.length
+        )
+    }
+}
+
+impl<'a, R> From<&'a [R]> for Listed<'a, R, ByNumbers> {
+    ghost from_gives = { λ rows listed. listed.rows.now ≡ rows.now };
+
+    fn from(rows: &'a [R]) -> Self {
+        Listed {
+            manner: ByNumbers,
+            rows,
+        }
     }
 }
 
 /// A list of places: `OFFSET:LENGTH` for each, with commas between; `-` where there is none.
-#[derive(Clone, Copy)]
-pub struct Places<'a> {
-    pub rows: &'a [Place],
-}
-
-impl fmt::Display for Places<'_> {
-    ghost output = { λ x. Some (places_text x.rows.now) };
-
-    fn fmt<W: fmt::Write>(&self, f: &mut fmt::Formatter<W>) -> fmt::Result {
-        write_list(&ByNumbers, self.rows, f)
-    }
-}
+pub type Places<'a> = Listed<'a, Place, ByNumbers>;
 
 /// A list of bindings: the places of the name and of the value, with `=` between, for each; else as a list of places.
-#[derive(Clone, Copy)]
-pub struct Bindings<'a> {
-    pub rows: &'a [Binding],
-}
-
-impl fmt::Display for Bindings<'_> {
-    ghost output = { λ x. Some (bindings_text x.rows.now) };
-
-    fn fmt<W: fmt::Write>(&self, f: &mut fmt::Formatter<W>) -> fmt::Result {
-        write_list(&ByNumbers, self.rows, f)
-    }
-}
+pub type Bindings<'a> = Listed<'a, Binding, ByNumbers>;
 
 /// The lists of one module, each after its letter: `b ROWS e ROWS r ROWS u ROWS`.
 #[derive(Clone, Copy)]
@@ -73,14 +62,10 @@ impl fmt::Display for Lists<'_> {
     ghost output = { λ x. Some (lists_text x.bindings.now x.exports.now x.reexports.now x.unsafes.now) };
 
     fn fmt<W: fmt::Write>(&self, f: &mut fmt::Formatter<W>) -> fmt::Result {
-        let bindings = Bindings {
-            rows: self.bindings,
-        };
-        let exports = Places { rows: self.exports };
-        let reexports = Places {
-            rows: self.reexports,
-        };
-        let unsafes = Places { rows: self.unsafes };
+        let bindings = Bindings::from(self.bindings);
+        let exports = Places::from(self.exports);
+        let reexports = Places::from(self.reexports);
+        let unsafes = Places::from(self.unsafes);
         write!(f, "b {bindings} e {exports} r {reexports} u {unsafes}")
     }
 }

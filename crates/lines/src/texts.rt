@@ -1,57 +1,28 @@
 //! The texts at places, in hexadecimal.
-ghost use Rattle.std.specs.Prelude.{◌≡◌, ◌<◌, [], ◌∷◌, Some};
+ghost use Rattle.std.specs.Prelude.{◌≡◌, Some};
 ghost use Rattle.std.specs.Fmt.{WritesOnOk};
 ghost use Rattle.text.specs.Reading.{loose};
-ghost use Rattle.lines.specs.Texts.{hex_bytes, hex_digit, is_textless, loose_text, loose_texts, reading_at};
+ghost use Rattle.lines.specs.Texts.{hex_bytes, loose_text, reading_at};
 
-use crate::listed::{Manner, write_list};
+use crate::listed::{Listed, Manner};
 use std::fmt;
 use text::{LooseBytes, Place};
 
-/// The hexadecimal digit of a number below 16.
-fn hex_digit(n: u8) -> char
-    requires { n < 16 }
-    ensures { result ≡ hex_digit n }
-{
-    if n < 10 {
-        (b'0' + n) as char
-    } else {
-        (b'a' + (n - 10)) as char
-    }
-}
-
-/// Writes a byte by its two digits.
-fn write_byte<W: fmt::Write>(byte: u8, f: &mut fmt::Formatter<W>) -> fmt::Result
-    ensures { WritesOnOk W.write_str_gives f.old result (hex_bytes (byte ∷ [])) f.new }
-{
-    let high = hex_digit(byte / 16);
-    let low = hex_digit(byte % 16);
-    write!(f, "{high}{low}")
-}
-
-/// Writes the bytes of the loose reading of a text.
+/// Writes the bytes of the loose reading of a text, each by its two digits.
 fn write_loose<W: fmt::Write>(text: &[u8], f: &mut fmt::Formatter<W>) -> fmt::Result
     ensures { WritesOnOk W.write_str_gives f.old result (hex_bytes (loose text.now)) f.new }
 {
-    let mut left = LooseBytes::new(text);
-    while let Some(byte) = left.next() {
-        write_byte(byte, f)?;
+    for byte in LooseBytes::new(text) {
+        write!(f, "{byte:02x}")?;
     }
     Ok(())
-}
-
-/// Whether a place is that of the name `default`, which stands in no text.
-fn is_textless(place: &Place) -> bool
-    ensures { result ≡ is_textless place.now }
-{
-    place.offset == 0 && place.length == u32::MAX
 }
 
 /// The bytes at a place, or those of the name `default` at its place.
 fn bytes_at<'a>(text: &'a [u8], place: &Place) -> &'a [u8]
     ensures { loose result.now ≡ reading_at text.now place.now }
 {
-    if is_textless(place) {
+    if *place == Place::TEXTLESS {
         b"default"
     } else {
         place.part(text)
@@ -60,8 +31,8 @@ fn bytes_at<'a>(text: &'a [u8], place: &Place) -> &'a [u8]
 
 /// Rows by their texts.
 #[derive(Clone, Copy)]
-struct ByTexts<'a> {
-    text: &'a [u8],
+pub struct ByTexts<'a> {
+    pub text: &'a [u8],
 }
 
 impl Manner<Place> for ByTexts<'_> {
@@ -75,17 +46,4 @@ impl Manner<Place> for ByTexts<'_> {
 
 /// The texts at places: for each `.` and the loose reading, two digits a byte, with commas between; `-` where there is
 /// none. At offset 0 and length 4294967295 stands `default`, whatever the text.
-#[derive(Clone, Copy)]
-pub struct LooseTexts<'a> {
-    pub text: &'a [u8],
-    pub rows: &'a [Place],
-}
-
-impl fmt::Display for LooseTexts<'_> {
-    ghost output = { λ x. Some (loose_texts x.text.now x.rows.now) };
-
-    fn fmt<W: fmt::Write>(&self, f: &mut fmt::Formatter<W>) -> fmt::Result {
-        let manner = ByTexts { text: self.text };
-        write_list(&manner, self.rows, f)
-    }
-}
+pub type LooseTexts<'a> = Listed<'a, Place, ByTexts<'a>>;

@@ -1,4 +1,3 @@
-use Rattle.std.proofs.Common.{length}
 use Rattle.text.specs.Reading.{loose, to_come}
 use Rattle.lines.specs.Texts.{hex_bytes}
 use Rattle.lines.proofs.Underway.{Going}
@@ -6,7 +5,4 @@ use Rattle.lines.proofs.texts.write_loose.Given as goal
 
 abbrev pub invariant-loop-byte : goal.invariant-loop-byte
 invariant-loop-byte g l =
-    Going g.W.Write.write_str_gives l.initial.f (hex_bytes (loose l.text)) l.f (hex_bytes (to_come l.left))
-
-abbrev pub decreases-loop-byte : goal.decreases-loop-byte
-decreases-loop-byte g l = length (to_come l.left)
+    Going g.W.Write.write_str_gives l.initial.f (hex_bytes (loose l.text)) l.f (hex_bytes (to_come l.byte-iterator))
