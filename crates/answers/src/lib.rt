@@ -5,6 +5,6 @@ mod answer;
 mod report;
 mod stream;
 
-pub use answer::{Answer, answer_for, answer_too_long};
-pub use report::{Report, report_for};
-pub use stream::{Announcement, LONGEST_BLOCK, announced, answer_stream};
+pub use answer::{AnswerLine, Found, answer_for, answer_too_long};
+pub use report::{Report, ReportText, report_for};
+pub use stream::{CutShort, LONGEST_BLOCK, Length, announced, answer_stream, answer_stream_in};

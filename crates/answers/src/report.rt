@@ -1,92 +1,69 @@
 //! What a block is, in words for people.
 ghost use Rattle.std.specs.Prelude.{◌≡◌, Some};
-ghost use Rattle.answers.specs.Report.{ReportOf, kind_word, reason_words, report_text, yes_or_no};
+ghost use Rattle.answers.specs.Report.{ReportOf, held_text, report_text, yes_or_no};
 
+use fault::Fault;
 use findings::parsed_source::{ProgramKind, ProgramRef};
 use std::fmt;
 use tree::{Tree, TreeFault};
 
-/// What is reported of a block: its refusal, or how many rows it has, what its program is, and what the script test says.
-#[derive(Clone, Copy)]
-pub enum Report {
-    Refused(TreeFault),
-    Lawful {
-        rows: usize,
-        kind: ProgramKind,
-        is_script: bool,
-    },
+/// What is reported of a lawful block: how many rows it has, what its program is, and what the script test says.
+#[derive(Clone, Copy, PartialEq, Eq, Debug)]
+pub struct Report {
+    pub rows: usize,
+    pub kind: ProgramKind,
+    pub is_script: bool,
 }
 
-/// The report of a block of a module.
-pub fn report_for(module: u32, block: &[u8]) -> Report
+/// The words for a block: its report, or that it is refused and why.
+#[derive(Clone, Copy, PartialEq, Eq, Debug)]
+pub struct ReportText(pub Result<Report, TreeFault>);
+
+/// The report of a block of a module, or its refusal.
+pub fn report_for(module: u32, block: &[u8]) -> Result<Report, TreeFault>
     ensures { ReportOf «module» block.now result }
 {
-    let checked = Tree::check(module, block);
-    match checked.tree() {
-        Err(refusal) => Report::Refused(refusal),
-        Ok(tree) => {
-            let program = ProgramRef::new(tree);
-            Report::Lawful {
-                rows: tree.count(),
-                kind: program.kind(),
-                is_script: program.compute_is_script(),
-            }
-        }
-    }
+    let tree = Tree::check(module, block)?;
+    let program = ProgramRef::new(&tree);
+    Ok(Report {
+        rows: tree.count(),
+        kind: program.kind(),
+        is_script: program.compute_is_script(),
+    })
 }
 
-/// What a refusal says.
-fn reason(refusal: TreeFault) -> &'static str
-    ensures { result.now ≡ reason_words refusal }
-{
-    match refusal {
-        TreeFault::Layout { .. } => "the block's size or its sections are not lawful",
-        TreeFault::End { .. } => "the row at this place has an unlawful end",
-        TreeFault::Depth { .. } => "more than 256 rows enclose the row at this place",
-        TreeFault::Shape { .. } => "the row at this place does not fit the table of kinds",
-        TreeFault::Text { .. } => "the text of the row at this place is not lawful",
-    }
-}
-
-/// The word for what a program is.
-fn kind_word(kind: ProgramKind) -> &'static str
-    ensures { result.now ≡ kind_word kind }
-{
-    match kind {
-        ProgramKind::Module => "module",
-        ProgramKind::Script => "script",
-    }
-}
-
-/// The word for an answer to a question.
+/// The word for an answer to a question: a truth value prints as another word.
 fn yes_or_no(answer: bool) -> &'static str
     ensures { result.now ≡ yes_or_no answer }
 {
     if answer { "yes" } else { "no" }
 }
 
-/// The words of a report, in lines: that the block is refused, with the fault's line and its reason; or what it holds.
+/// What a lawful block holds, in lines.
 impl fmt::Display for Report {
-    ghost output = { λ x. Some (report_text x) };
+    ghost output = { λ x. Some (held_text x) };
 
     fn fmt<W: fmt::Write>(&self, f: &mut fmt::Formatter<W>) -> fmt::Result {
-        match *self {
-            Report::Refused(refusal) => {
-                let fault = refusal.fault();
-                let words = reason(refusal);
-                write!(f, "not a lawful tree block\n{fault}: {words}")
-            }
-            Report::Lawful {
-                rows,
-                kind,
-                is_script,
-            } => {
-                let kind = kind_word(kind);
-                let script = yes_or_no(is_script);
-                write!(
-                    f,
-                    "a lawful tree block\nrows: {rows}\nprogram: {kind}\ntreated as a script: {script}"
-                )
+        let rows = self.rows;
+        let kind = self.kind;
+        let script = yes_or_no(self.is_script);
+        write!(
+            f,
+            "a lawful tree block\nrows: {rows}\nprogram: {kind}\ntreated as a script: {script}"
+        )
+    }
+}
+
+/// The report, or that the block is refused, with the fault's line and its reason.
+impl fmt::Display for ReportText {
+    ghost output = { λ x. Some (report_text x.0) };
+
+    fn fmt<W: fmt::Write>(&self, f: &mut fmt::Formatter<W>) -> fmt::Result {
+        match self.0 {
+            Ok(report) => write!(f, "{report}"),
+            Err(refusal) => {
+                let fault = Fault::from(refusal);
+                write!(f, "not a lawful tree block\n{fault}: {refusal}")
             }
         }
     }

@@ -1,70 +1,105 @@
 //! A stream of blocks, each after its length as a 32-bit little-endian number: one line for each block.
-ghost use Rattle.std.specs.Prelude.{◌≡◌, ◌≤◌, length, IfOk};
-ghost use Rattle.answers.specs.Stream.{Held, Within, announced_by, kept_of};
+ghost use Rattle.std.specs.Prelude.{◌≡◌, ◌≤◌, ◌<◌, length, take, IfOk, IfSome, OnOk, Some, codes};
+ghost use Rattle.std.specs.Io.KnownBytes.{Consumes, IsAtEnd};
+ghost use Rattle.answers.specs.Stream.{NextLength, NextLine, Takes, Within, WritesLines, announced_by, kept_of, sized};
+ghost use Rattle.answers.specs.declared.stream.ReadError.TheVariants.{CutShort, Io};
 
-use crate::answer::{answer_for, answer_too_long};
+use crate::answer::{AnswerLine, answer_for, answer_too_long};
 use std::alloc::Global;
-use std::io;
+use std::error::Error;
 use std::io::{Read, Write};
+use std::{fmt, io};
 use text::read_le32;
 
 /// Longer blocks are refused whatever they hold, so they are read past and not kept.
 pub const LONGEST_BLOCK: usize = 4_194_304;
 
-/// What the bytes that a stream gave of a length announce.
-#[derive(Clone, Copy)]
-pub enum Announcement {
-    Nothing,
-    Cut,
-    Block(usize),
+/// The length of a block: of one that fits into the room there is, or of one that is too long for it.
+#[derive(Clone, Copy, PartialEq, Eq, Debug)]
+pub enum Length {
+    Fits(usize),
     TooLong(usize),
 }
 
-/// What the stream has next.
-#[derive(Clone, Copy)]
-enum Next {
-    End,
-    Short,
-    PassedOver,
-    Kept(usize),
+/// The stream ended inside a length or a block.
+#[derive(Clone, Copy, PartialEq, Eq, Debug)]
+pub struct CutShort;
+
+/// Why the next block of a stream is not to be had.
+#[derive(Debug, Drop)]
+enum ReadError {
+    CutShort(CutShort),
+    Io(io::Error),
+}
+
+impl From<CutShort> for ReadError {
+    ghost from_gives = { λ cut error. error ≡ CutShort cut };
+
+    fn from(cut: CutShort) -> Self {
+        ReadError::CutShort(cut)
+    }
+}
+
+impl From<io::Error> for ReadError {
+    ghost from_gives = { λ failure error. error ≡ Io failure };
+
+    fn from(error: io::Error) -> Self {
+        ReadError::Io(error)
+    }
+}
+
+/// The line of a stream that is cut short.
+impl fmt::Display for CutShort {
+    ghost output = { λ _. Some (codes "short") };
+
+    fn fmt<W: fmt::Write>(&self, f: &mut fmt::Formatter<W>) -> fmt::Result {
+        f.write_str("short")
+    }
+}
+
+impl Error for CutShort {}
+
+impl Length {
+    /// Which it is, where there is room for so many bytes.
+    fn new(length: usize, room: usize) -> Self
+        ensures { result ≡ sized length room }
+    {
+        if length <= room {
+            Length::Fits(length)
+        } else {
+            Length::TooLong(length)
+        }
+    }
 }
 
 /// What a length announces, of which the stream gave these bytes: at most four, and fewer only where it ended.
-/// A block fits where it has at most `room` bytes.
-pub fn announced(head: &[u8], room: usize) -> Announcement
+/// Where it gave none, there is no block more. A block fits where it has at most `room` bytes.
+pub fn announced(head: &[u8], room: usize) -> Result<Option<Length>, CutShort>
     ensures exact { result ≡ announced_by head.now room }
-    ensures within { Within room result }
+    ensures within { IfOk result (λ next. IfSome next (Within room)) }
 {
-    if head.len() == 0 {
-        return Announcement::Nothing;
-    }
-    if head.len() < 4 {
-        return Announcement::Cut;
-    }
-    let length = read_le32(head, 0) as usize;
-    if length <= room {
-        Announcement::Block(length)
-    } else {
-        Announcement::TooLong(length)
+    match head.len() {
+        0 => Ok(None),
+        1..=3 => Err(CutShort),
+        _ => Ok(Some(Length::new(read_le32(head, 0) as usize, room))),
     }
 }
 
-/// What was kept of a block of `count` bytes, of which the stream gave `held`.
-fn kept(held: usize, count: usize) -> Next
-    ensures { result ≡ kept_of held count }
+/// Whether a block of `count` bytes is whole, of which the stream gave `given`.
+fn whole(given: usize, count: usize) -> Result<(), CutShort>
+    ensures { result ≡ kept_of given count }
 {
-    if held < count {
-        Next::Short
-    } else {
-        Next::Kept(count)
-    }
+    if given < count { Err(CutShort) } else { Ok(()) }
 }
 
-/// Fills the buffer from the input. It answers how many bytes came, fewer only where the input ended.
+/// Fills the buffer from the input, and answers how many bytes came: fewer only where the input ended.
 fn fill<R: Read>(input: &mut R, buffer: &mut [u8]) -> io::Result<usize>
-    ensures { IfOk result (λ n. n ≤ length buffer.old) }
+    ensures bound { IfOk result (λ n. n ≤ length buffer.old) }
+    ensures given { IfOk result (λ n. Consumes (R.remaining input.old) (R.remaining input.new) (take n buffer.new)) }
+    ensures end { IfOk result (λ n. n < length buffer.old → IsAtEnd (R.remaining input.new)) }
 {
     let mut done = 0;
+    // By hand: std's `copy` says nothing of what an input behind a `take` has left, nor `read_exact` what one that ended had.
     while done < buffer.len() {
         let got = input.read(&mut buffer[done..])?;
         if got == 0 {
@@ -75,60 +110,96 @@ fn fill<R: Read>(input: &mut R, buffer: &mut [u8]) -> io::Result<usize>
     Ok(done)
 }
 
-/// Reads past so many bytes, and tells whether the input had them.
-fn pass_over<R: Read>(input: &mut R, buffer: &mut [u8], count: usize) -> io::Result<bool> {
-    let mut left = count;
-    while left > 0 && buffer.len() > 0 {
-        let turn = left.min(buffer.len());
-        if fill(input, &mut buffer[0..turn])? < turn {
-            return Ok(false);
-        }
-        left -= turn;
-    }
-    Ok(left == 0)
+/// Fills the whole buffer from the input.
+fn fill_whole<R: Read>(input: &mut R, buffer: &mut [u8]) -> Result<(), ReadError>
+    ensures takes { Takes (length buffer.old) (R.remaining input.old) (R.remaining input.new) result }
+    ensures given { OnOk result (Consumes (R.remaining input.old) (R.remaining input.new) buffer.new) }
+{
+    let given = fill(input, buffer)?;
+    whole(given, buffer.len())?;
+    Ok(())
 }
 
-/// Reads the next block into the buffer, or past it where it is too long.
-fn next_block<R: Read>(input: &mut R, buffer: &mut [u8]) -> io::Result<Next>
-    ensures { IfOk result (Held (length buffer.old)) }
+/// Reads past so many bytes of the input.
+fn pass_over<R: Read>(
+    input: &mut R,
+    buffer: &mut [u8; LONGEST_BLOCK],
+    count: usize,
+) -> Result<(), ReadError>
+    ensures { Takes count (R.remaining input.old) (R.remaining input.new) result }
+{
+    for _ in 0..count / LONGEST_BLOCK {
+        fill_whole(input, buffer)?;
+    }
+    fill_whole(input, &mut buffer[..count % LONGEST_BLOCK])
+}
+
+/// The length of the next block, if one follows.
+fn next_length<R: Read>(input: &mut R, room: usize) -> Result<Option<Length>, ReadError>
+    ensures length { NextLength room (R.remaining input.old) (R.remaining input.new) result }
+    ensures within { IfOk result (λ next. IfSome next (Within room)) }
 {
     let mut head = [0u8; 4];
-    let got = fill(input, &mut head)?;
-    match announced(&head[0..got], buffer.len()) {
-        Announcement::Nothing => Ok(Next::End),
-        Announcement::Cut => Ok(Next::Short),
-        Announcement::TooLong(length) => {
-            let whole = pass_over(input, buffer, length)?;
-            Ok(if whole { Next::PassedOver } else { Next::Short })
+    let given = fill(input, &mut head)?;
+    Ok(announced(&head[..given], room)?)
+}
+
+/// The line for the next block, if one follows. The block is read into the buffer, or past it where it is too long.
+fn next_line<R: Read>(
+    input: &mut R,
+    buffer: &mut [u8; LONGEST_BLOCK],
+) -> Result<Option<AnswerLine>, ReadError>
+    ensures { NextLine (R.remaining input.old) (R.remaining input.new) result }
+{
+    let Some(length) = next_length(input, buffer.len())? else {
+        return Ok(None);
+    };
+    let answer = match length {
+        Length::Fits(count) => {
+            let block = &mut buffer[..count];
+            fill_whole(input, block)?;
+            answer_for(0, block)
         }
-        Announcement::Block(length) => {
-            let held = fill(input, &mut buffer[0..length])?;
-            Ok(kept(held, length))
+        Length::TooLong(count) => {
+            pass_over(input, buffer, count)?;
+            Err(answer_too_long(0))
         }
-    }
+    };
+    Ok(Some(AnswerLine(answer)))
 }
 
 /// Answers each block of the input by a line on the output. A stream that ends inside a length or a block gets `short`.
-/// It keeps one block at a time.
+/// It keeps one block at a time, in the buffer. After an `Err` some of the lines may be written.
+pub fn answer_stream_in<R: Read, W: Write>(
+    buffer: &mut [u8; LONGEST_BLOCK],
+    input: &mut R,
+    output: &mut W,
+) -> io::Result<()>
+    ensures { OnOk result (IfSome (R.remaining input.old)
+        (λ xs. length xs < u64.MAX → WritesLines (W.contents output.old) (W.contents output.new) xs)) }
+{
+    // A loop has to end, and nothing says that an input does. Each turn takes four bytes at least.
+    for _ in 0..u64::MAX {
+        match next_line(input, buffer) {
+            Ok(Some(line)) => writeln!(output, "{line}")?,
+            Ok(None) => return Ok(()),
+            Err(ReadError::CutShort(cut)) => return writeln!(output, "{cut}"),
+            Err(ReadError::Io(error)) => return Err(error),
+        }
+    }
+    Ok(())
+}
+
+/// Answers each block of the input as `answer_stream_in` does, in a buffer of its own.
 pub fn answer_stream<R: Read, W: Write>(
     heap: Global,
     input: &mut R,
     output: &mut W,
-) -> io::Result<()> {
+) -> io::Result<()>
+    ensures { OnOk result (IfSome (R.remaining input.old)
+        (λ xs. length xs < u64.MAX → WritesLines (W.contents output.old) (W.contents output.new) xs)) }
+{
     let mut buffer = vec![in heap; 0u8; LONGEST_BLOCK]?;
-    for _ in 0..u64::MAX {
-        match next_block(input, &mut buffer)? {
-            Next::End => return Ok(()),
-            Next::Short => return writeln!(output, "short"),
-            Next::PassedOver => {
-                let answer = answer_too_long(0);
-                writeln!(output, "{answer}")?;
-            }
-            Next::Kept(length) => {
-                let answer = answer_for(0, &buffer[0..length]);
-                writeln!(output, "{answer}")?;
-            }
-        }
-    }
-    Ok(())
+    let room = buffer.as_mut_slice().try_into().unwrap();
+    answer_stream_in(room, input, output)
 }

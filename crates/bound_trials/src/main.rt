@@ -3,14 +3,14 @@
 
 mod build;
 
-use answers::{answer_for, answer_stream};
+use answers::{AnswerLine, answer_for, answer_stream};
 use build::{chain, flat, framed, padded};
 use std::io;
 
 /// Prints the answer for a block.
 fn show(rt: &HostRuntime, name: &str, block: &[u8]) -> io::Result<()> {
     let length = block.len();
-    let answer = answer_for(0, block);
+    let answer = AnswerLine(answer_for(0, block));
     println!(rt; "{name} ({length} bytes): {answer}")
 }
 

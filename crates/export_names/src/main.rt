@@ -3,8 +3,8 @@
 
 ghost use Rattle.std.specs.Prelude.{◌≡◌, ◌||◌, ◌==◌};
 
-use answers::{LONGEST_BLOCK, answer_stream, report_for};
-use anyhow::anyhow;
+use answers::{LONGEST_BLOCK, ReportText, answer_stream, report_for};
+use anyhow::{Context, anyhow, bail, ensure};
 use std::env::Args;
 use std::fs::File;
 use std::io::{BufReader, BufWriter, Read, Write};
@@ -23,10 +23,10 @@ fn read_block(rt: &HostRuntime, path: &str) -> io::Result<Vec<u8>> {
 /// Prints what the block in a file is.
 fn tree_command(rt: &HostRuntime, mut args: Args) -> anyhow::Result<()> {
     let (Some(path), None) = (args.next(), args.next()) else {
-        return Err(anyhow!(USAGE));
+        bail!(USAGE);
     };
     let name = path.as_str();
-    let report = report_for(0, &read_block(rt, name)?);
+    let report = ReportText(report_for(0, &read_block(rt, name)?));
     println!(rt; "{name}: {report}")?;
     Ok(())
 }
@@ -35,21 +35,15 @@ fn tree_command(rt: &HostRuntime, mut args: Args) -> anyhow::Result<()> {
 fn may_be_given(sizes: usize) -> bool
     ensures { result ≡ (sizes == 0 || sizes == 4) }
 {
-    sizes == 0 || sizes == 4
+    matches!(sizes, 0 | 4)
 }
 
 /// Answers a stream of blocks on the standard input. The four numbers are sizes of tables that no answer fills yet.
 fn findings_command(rt: &HostRuntime, args: Args) -> anyhow::Result<()> {
-    let mut sizes = 0usize;
-    for size in args {
-        if size.as_str().parse::<u32>().is_err() {
-            return Err(anyhow!(USAGE));
-        }
-        sizes = sizes.saturating_add(1);
-    }
-    if !may_be_given(sizes) {
-        return Err(anyhow!(USAGE));
-    }
+    let sizes: Vec<u32> = args
+        .map(|size| size.as_str().parse::<u32>().map_err(|_| anyhow!(USAGE)))
+        .try_collect(rt.alloc())?;
+    ensure!(may_be_given(sizes.len()), USAGE);
     let mut input = BufReader::new(rt.alloc(), rt.stdin())?;
     let mut output = BufWriter::new(rt.alloc(), rt.stdout())?;
     answer_stream(rt.alloc(), &mut input, &mut output)?;
@@ -60,13 +54,11 @@ fn findings_command(rt: &HostRuntime, args: Args) -> anyhow::Result<()> {
 fn run(rt: &HostRuntime) -> anyhow::Result<()> {
     let mut args = env::args(rt)?;
     let _ = args.next();
-    let Some(command) = args.next() else {
-        return Err(anyhow!(USAGE));
-    };
-    match command.as_bytes() {
-        b"tree" => tree_command(rt, args),
-        b"findings" => findings_command(rt, args),
-        _ => Err(anyhow!(USAGE)),
+    let command = args.next().context(USAGE)?;
+    match command.as_str() {
+        "tree" => tree_command(rt, args),
+        "findings" => findings_command(rt, args),
+        _ => bail!(USAGE),
     }
 }
 

@@ -1,0 +1,120 @@
+-- What a stream gave, in parts: a part after another, and the lines of all.
+use Rattle.std.proofs.Common.{◌≡◌, ℕ, ◌+◌, ◌≤◌, ◌<◌, Bool, true, false, cond, List, ◌++◌, length, length-append, append_assoc, append-nil, nat_le, refl, sym, ap, ◌∙◌, subst, arith, true≢false}
+use Rattle.std.proofs.lemmas.Bool.{leb-false}
+use Rattle.std.specs.Prelude.{Option, Some, None, Result, Ok, Err, IfSome, OnOk, IsErrAnd}
+use Rattle.std.specs.Io.KnownBytes.{Appends, Consumes, IsAtEnd}
+use Rattle.std.proofs.KnownBytes.{Appends-trans, Consumes-trans}
+use Rattle.text.specs.Number.{le32}
+use Rattle.answers.specs.Answers.{AnswerOf, answer_line}
+use Rattle.answers.specs.Stream.{WritesLines, CutStream, EndsAfter, LinesOf, NextLength, NextLine, Takes, line_end, sized}
+use Rattle.answers.specs.Stream.CutStream.{in_length, in_block}
+use Rattle.answers.specs.Stream.LinesOf.{block}
+use Rattle.answers.specs.declared.answer.AnswerLine.{AnswerLine}
+use Rattle.answers.specs.declared.stream.CutShort.{CutShort as CutShortRecord}
+use Rattle.answers.specs.declared.stream.Length.{Length}
+use Rattle.answers.specs.declared.stream.Length.TheVariants.{Fits, TooLong}
+use Rattle.answers.specs.declared.stream.ReadError.{ReadError}
+use Rattle.answers.specs.declared.stream.ReadError.TheVariants.{CutShort, Io}
+
+longer : (xs ys : List ℕ) (n count : ℕ) → length ys < n → length xs + n ≤ count → length (xs ++ ys) < count
+longer xs ys n count short room = let both = length-append xs ys in omega (arith, both)
+
+-- bytes were taken, and then a reader ended before so many more
+ended : (a b c : Option (List ℕ)) (bs : List ℕ) (n count : ℕ) (e : ReadError) → Consumes a b bs → length bs + n ≤ count → Takes n b c (Err e) → Takes count a c (Err e)
+ended a b c bs n count (CutShort k) first room (part, short, (gave, end)) = (bs ++ part, longer bs part n count short room, (Consumes-trans a b c bs part first gave, end))
+ended a b c bs n count (Io k) first room u = tt
+
+pub Takes-ended : (a b c : Option (List ℕ)) (bs : List ℕ) (n count : ℕ) (e : ReadError) (r : Result (Unit {0}) ReadError) → Consumes a b bs → length bs + n ≤ count
+    → Takes n b c (Err e) → IsErrAnd r (λ f. f ≡ e) → Takes count a c r
+Takes-ended a b c bs n count e (Ok u) first room took is = absurd is
+Takes-ended a b c bs n count e (Err f) first room took is = subst (λ x. Takes count a c (Err x)) (sym is) (ended a b c bs n count e first room took)
+
+-- bytes were taken, and then so many more as make the count full
+pub Takes-after : (a b c : Option (List ℕ)) (bs : List ℕ) (n count : ℕ) (r : Result (Unit {0}) ReadError) → Consumes a b bs → length bs + n ≡ count → Takes n b c r → Takes count a c r
+Takes-after a b c bs n count (Ok u) first full (more, long, gave) =
+    (bs ++ more, length-append bs more ∙ ap (λ k. length bs + k) long ∙ full, Consumes-trans a b c bs more first gave)
+Takes-after a b c bs n count (Err e) first full took = ended a b c bs n count e first (omega (arith, full)) took
+
+-- a block that fits, or that is too long, has the announced length
+abbrev pub number_of : Length → ℕ
+number_of (Fits n) = n
+number_of (TooLong n) = n
+
+abbrev is_long : Length → Bool
+is_long (Fits n) = false
+is_long (TooLong n) = true
+
+sized-number : (n room : ℕ) → number_of (sized n room) ≡ n
+sized-number n room = elim (nat_le n room) as (λ v. number_of (cond v (Fits n) (TooLong n)) ≡ n) [ true ↦ refl | false ↦ refl ]
+
+pub number_so : (n room : ℕ) (next : Length) → next ≡ sized n room → number_of next ≡ n
+number_so n room next e = ap number_of e ∙ sized-number n room
+
+-- a reader that ended before the next block's length, or inside it
+pub NextLine-ended : (room : ℕ) (a b : Option (List ℕ)) (e : ReadError) (r : Result (Option AnswerLine) ReadError) → NextLength room a b (Err e)
+    → IsErrAnd r (λ f. f ≡ e) → NextLine a b r
+NextLine-ended room a b e (Ok u) took is = absurd is
+NextLine-ended room a b (CutShort k) (Err f) (head, some, short, end) is = subst (λ x. NextLine a b (Err x)) (sym is) (head, in_length head some short, end)
+NextLine-ended room a b (Io k) (Err f) u is = subst (λ x. NextLine a b (Err x)) (sym is) tt
+
+-- a reader that ended inside the next block
+pub NextLine-cut : (a b c : Option (List ℕ)) (head : List ℕ) (n : ℕ) (e : ReadError) (r : Result (Option AnswerLine) ReadError) → Consumes a b head → length head ≡ 4
+    → n ≡ le32 head 0 → Takes n b c (Err e) → IsErrAnd r (λ f. f ≡ e) → NextLine a c r
+NextLine-cut a b c head n e (Ok u) first four long took is = absurd is
+NextLine-cut a b c head n (CutShort k) (Err f) first four long (part, short, (gave, end)) is =
+    subst (λ x. NextLine a c (Err x)) (sym is) (head ++ part, in_block head part four (subst (λ m. length part < m) long short), (Consumes-trans a b c head part first gave, end))
+NextLine-cut a b c head n (Io k) (Err f) first four long u is = subst (λ x. NextLine a c (Err x)) (sym is) tt
+
+-- the lines so far, and those of what a reader ended with
+pub WritesLines-ended : (a b c o p q : Option (List ℕ)) (taken written more chunk : List ℕ) (P : List ℕ → Type 0) → Consumes a b taken → Appends o p written
+    → ((rest lines : List ℕ) → LinesOf rest lines → LinesOf (taken ++ rest) (written ++ lines)) → EndsAfter b c more → LinesOf more chunk → Appends p q chunk
+    → IfSome a (λ xs. P xs → WritesLines o q xs)
+WritesLines-ended None b c o p q taken written more chunk P gave put so end lines last = tt
+WritesLines-ended (Some x) None c o p q taken written more chunk P gave put so end lines last = absurd gave
+WritesLines-ended (Some x) (Some y) None o p q taken written more chunk P gave put so end lines last = absurd end.0
+WritesLines-ended (Some x) (Some y) (Some z) o p q taken written more chunk P gave put so end lines last =
+    let left : y ≡ more = end.0 ∙ ap (λ l. more ++ l) end.1 ∙ append-nil more in
+    let whole : x ≡ taken ++ more = gave ∙ ap (λ l. taken ++ l) left in
+    λ _. (written ++ chunk, subst (λ l. LinesOf l (written ++ chunk)) (sym whole) (so more chunk lines), Appends-trans o p q written chunk put last)
+
+-- the lines so far, and one more
+pub lines_onward : (taken written head blk : List ℕ) (line : AnswerLine) → ((rest lines : List ℕ) → LinesOf rest lines → LinesOf (taken ++ rest) (written ++ lines))
+    → length head ≡ 4 → length blk ≡ le32 head 0 → AnswerOf 0 blk line.0 → (rest lines : List ℕ) → LinesOf rest lines
+    → LinesOf ((taken ++ (head ++ blk)) ++ rest) ((written ++ (answer_line line.0 ++ line_end)) ++ lines)
+lines_onward taken written head blk line so four long answers rest lines h =
+    let chunk = answer_line line.0 ++ line_end in
+    let all = so ((head ++ blk) ++ rest) (chunk ++ lines) (block head blk rest lines line.0 four long answers h) in
+    subst (λ l. LinesOf ((taken ++ (head ++ blk)) ++ rest) l) (sym (append_assoc written chunk lines))
+    (subst (λ l. LinesOf l (written ++ (chunk ++ lines))) (sym (append_assoc taken (head ++ blk) rest)) all)
+
+-- the length that follows in a stream
+abbrev pub Follows : ℕ → Option (List ℕ) → Option (List ℕ) → Length → Type 0
+Follows room a b next = (head : List ℕ) × (length head ≡ 4) × (next ≡ sized (le32 head 0) room) × Consumes a b head
+
+pub next_some : (room : ℕ) (a b : Option (List ℕ)) (o : Option Length) (next : Length) → o ≡ Some next → NextLength room a b (Ok o) → Follows room a b next
+next_some room a b o next e took = subst (λ x. NextLength room a b (Ok x)) e took
+
+-- a block that is too long has no room
+above : (n room k : ℕ) (v : Bool) → nat_le n room ≡ v → TooLong k ≡ cond v (Fits n) (TooLong n) → room < n
+above n room k true le e = absurd (true≢false (ap is_long e))
+above n room k false le e = leb-false n room le
+
+pub too_long_above : (n room k : ℕ) → TooLong k ≡ sized n room → room < k
+too_long_above n room k e = subst (λ m. room < m) (sym (number_so n room (TooLong k) e)) (above n room k (nat_le n room) refl e)
+
+-- the line that follows in a stream
+abbrev pub FollowsLine : Option (List ℕ) → Option (List ℕ) → AnswerLine → Type 0
+FollowsLine a b line = (head blk : List ℕ) × (length head ≡ 4) × (length blk ≡ le32 head 0) × AnswerOf 0 blk line.0 × Consumes a b (head ++ blk)
+
+pub next_line_some : (a b : Option (List ℕ)) (o : Option AnswerLine) (line : AnswerLine) → o ≡ Some line → NextLine a b (Ok o) → FollowsLine a b line
+next_line_some a b o line e took = subst (λ x. NextLine a b (Ok x)) e took
+
+pub next_line_none : (a b : Option (List ℕ)) (o : Option AnswerLine) → o ≡ None → NextLine a b (Ok o) → IsAtEnd a
+next_line_none a b o e took = subst (λ x. NextLine a b (Ok x)) e took
+
+pub next_line_cut : (a b : Option (List ℕ)) (e : ReadError) (k : CutShortRecord) → e ≡ CutShort k → NextLine a b (Err e) → (xs : List ℕ) × CutStream xs × EndsAfter a b xs
+next_line_cut a b e k is took = subst (λ x. NextLine a b (Err x)) is took
+
+pub on_ok : {A E : Type 0} (r : Result A E) (P Q : Type 0) → (P → Q) → OnOk r P → OnOk r Q
+on_ok (Ok x) P Q f p = f p
+on_ok (Err e) P Q f p = tt
