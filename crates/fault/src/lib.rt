@@ -2,7 +2,7 @@
 #![tactic(auto)]
 
 ghost use Rattle.std.specs.Prelude.{Some};
-ghost use Rattle.fault.specs.Line.{fault_line};
+ghost use Rattle.fault.specs.Line.{fault_line, line_text};
 
 use std::fmt;
 
@@ -15,7 +15,8 @@ pub enum Layer {
     Survey = 4,
 }
 
-/// A refusal as its line has it: by its number, its layer, the module it concerns (0 if none) and its place (0 unless the refusal gives one).
+/// A refusal as its line has it: by its number, its layer, the module it concerns (0 if none) and its place (0 unless
+/// the refusal gives one).
 #[derive(Clone, Copy, PartialEq, Eq, Debug)]
 pub struct Fault {
     pub number: u8,
@@ -29,13 +30,26 @@ impl fmt::Display for Fault {
     ghost output = { λ x. Some (fault_line x) };
 
     fn fmt<W: fmt::Write>(&self, f: &mut fmt::Formatter<W>) -> fmt::Result {
-        let number = self.number;
-        let layer = self.layer as u8;
-        let module = self.module;
-        let place = self.place;
         write!(
             f,
-            "fault {number} layer {layer} module {module} place {place}"
+            "fault {} layer {} module {} place {}",
+            self.number, self.layer as u8, self.module, self.place
         )
+    }
+}
+
+/// The line of what is found, or of the fault that it is refused for.
+#[derive(Clone, Copy, PartialEq, Eq, Debug)]
+pub struct Line<T>(pub Result<T, Fault>);
+
+/// What is found, as its own text, or the line of the fault.
+impl<T: fmt::Display> fmt::Display for Line<T> {
+    ghost output = { λ x. line_text T.output x.0 };
+
+    fn fmt<W: fmt::Write>(&self, f: &mut fmt::Formatter<W>) -> fmt::Result {
+        match &self.0 {
+            Ok(found) => found.fmt(f),
+            Err(fault) => fault.fmt(f),
+        }
     }
 }

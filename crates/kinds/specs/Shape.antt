@@ -2,8 +2,8 @@
 use Rattle.std.specs.Prelude.{ℕ, Bool, true, false, cond, not, ◌&&◌, ◌||◌, List, [], ◌∷◌, Some, None, Option, ◌==◌, nat_le}
 use Rattle.kinds.specs.declared.shape.Group.{Group}
 use Rattle.kinds.specs.declared.shape.Group.TheVariants.{Any, Block, Declaration, Declarator, Function, Ident, Key, MemberProperty, Name, NotBlock, NotModuleItem, PatternProperty, Property, Specifier, SpecifierOrStr, Str}
-use Rattle.kinds.specs.declared.shape.Text.{Text}
-use Rattle.kinds.specs.declared.shape.Text.TheVariants.{Absent, Utf8, Wtf8}
+use Rattle.kinds.specs.declared.shape.Encoding.{Encoding}
+use Rattle.kinds.specs.declared.shape.Encoding.TheVariants.{Utf8, Wtf8}
 use Rattle.kinds.specs.Kinds.{other, ident, str, num, other_lit, call, spread, member, private_name, computed, paren, seq, assign, object, key_value, shorthand, getter, setter, method, function, fn_expr, arrow, block, «return», var_decl, using_decl, declarator, object_pat, key_value_pat, assign_pat_prop, rest_pat, assign_pat, «import», export_all, export_decl, export_named, namespace_spec, default_spec, named_spec, export_default, ts_namespace_export, class_decl, fn_decl, ts_enum, ts_module, type_decl, program}
 
 -- the kind is one of these
@@ -35,9 +35,9 @@ has Specifier kind = from namespace_spec named_spec kind
 has SpecifierOrStr kind = from namespace_spec named_spec kind || kind == str
 has Str kind = kind == str
 
--- the text
-abbrev pub text_of : ℕ → Text
-text_of kind = cond (among (ident ∷ private_name ∷ shorthand ∷ []) kind) Utf8 (cond (kind == str) Wtf8 Absent)
+-- the encoding of the text, or none where there is no text
+abbrev pub text_of : ℕ → Option Encoding
+text_of kind = cond (among (ident ∷ private_name ∷ shorthand ∷ []) kind) (Some Utf8) (cond (kind == str) (Some Wtf8) None)
 
 -- the highest mark
 abbrev pub highest_mark : ℕ → ℕ

@@ -62,6 +62,7 @@ pub enum Kind {
 #[derive(Clone, Copy, PartialEq, Eq, Debug)]
 pub struct UnknownKind(pub u32);
 
+/// The kind that has a number, or an error where no kind has it.
 impl TryFrom<u32> for Kind {
     type Error = UnknownKind;
 
@@ -126,6 +127,7 @@ impl TryFrom<u32> for Kind {
 
 impl Kind {
     /// The number of the kind in a tree block. The table of the kinds has a line for each.
+    #[tactic(auto, using(crate::proofs::Tried::columns_are_the_table))]
     pub fn number(self) -> u32
         ensures is { result ≡ number self }
         ensures table { ColumnsAreTheTable }

@@ -1,5 +1,6 @@
 mod Coding
 mod Wellformed
+mod Alike
 mod Bytewise
 pub mod Orders
 mod OnePoint

@@ -18,7 +18,7 @@ pub fn part(bytes: &[u8], offset: usize, length: usize) -> &[u8]
 }
 
 impl Place {
-    /// The place of the name `default`, which stands in no text.
+    /// The place of the name `default`, which stands in no text: a number of the findings' format, and so no `Option`.
     pub const TEXTLESS: Place = Place {
         offset: 0,
         length: u32::MAX,

@@ -52,6 +52,7 @@ impl CodePoints<'_> {
     }
 }
 
+/// The next code point, or an error where none begins.
 impl Iterator for CodePoints<'_> {
     ghost use Rattle.std.specs.Iterator.{item_count};
     ghost use Rattle.text.specs.Points.{Leads};
@@ -62,6 +63,7 @@ impl Iterator for CodePoints<'_> {
 
     ghost remaining = { item_count (λ s. s.rest.now) };
 
+    #[tactic(auto, using(crate::proofs::Wellformed::fewer))]
     fn next(&mut self) -> Option<Result<u32, Malformed>> {
         let (first, rest) = self.rest.split_first()?;
         self.rest = rest;

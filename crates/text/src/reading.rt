@@ -33,6 +33,7 @@ impl<'a> LooseBytes<'a> {
     }
 }
 
+/// The next byte of the reading.
 impl Iterator for LooseBytes<'_> {
     ghost use Rattle.std.specs.Iterator.{YieldsFirst, item_count};
     ghost use Rattle.text.specs.Reading.{to_come};
@@ -57,6 +58,7 @@ impl Iterator for LooseBytes<'_> {
 }
 
 /// The order of two texts by the bytes of their loose readings.
+#[tactic(auto, using(crate::proofs::Orders::loose_order_is_total))]
 pub fn compare_loose(a: &[u8], b: &[u8]) -> Ordering
     ensures by_bytes { result ≡ order (loose a.now) (loose b.now) }
     ensures total { LooseOrderIsTotal }
@@ -68,10 +70,11 @@ pub fn compare_loose(a: &[u8], b: &[u8]) -> Ordering
 pub fn equal_loose(a: &[u8], b: &[u8]) -> bool
     ensures { Decides result (loose a.now ≡ loose b.now) }
 {
-    compare_loose(a, b) == Ordering::Equal
+    LooseBytes::new(a).eq(LooseBytes::new(b))
 }
 
 /// The plain reading of a text: the text itself, or none where a surrogate occurs.
+#[tactic(auto, using(crate::proofs::ByPoints::plain_by_code_points))]
 pub fn plain_of(text: &[u8]) -> Option<&[u8]>
     ensures reading { seen result ≡ plain text.now }
     ensures by_points { PlainByCodePoints }
@@ -85,12 +88,14 @@ pub fn plain_of(text: &[u8]) -> Option<&[u8]>
 
 /// Writes the loose reading of a text over `out` from `at` on, and answers where it ends. Where it does not fit,
 /// nothing is written.
+#[tactic(auto, using(crate::proofs::ByPoints::loose_by_code_points))]
 pub fn write_loose(text: &[u8], out: &mut [u8], at: usize) -> Option<usize>
     ensures end { result ≡ written_end text.now out.old at }
     ensures contents { out.new ≡ written text.now out.old at }
     ensures by_points { LooseByCodePoints }
 {
     let end = at.checked_add(text.len()).filter(|end| *end <= out.len())?;
+    // By number: an `iter_mut().zip(..)` was tried, and after an adapter of `iter_mut` nothing is known of the values.
     for (i, byte) in (at..end).zip(LooseBytes::new(text)) {
         out[i] = byte;
     }

@@ -10,6 +10,7 @@ use show::{show_number, show_order, show_part, show_word, show_writing};
 use std::io::Error;
 use texts::show_texts;
 
+/// Prints the lines of all cases.
 fn main(rt: HostRuntime) -> Result<(), Error> {
     show_texts(rt)?;
     for (a, b) in &ORDERS {

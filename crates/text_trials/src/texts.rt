@@ -113,6 +113,7 @@ static TOO_LARGE: [&[u8]; 13] = [
     b"\xFF",
 ];
 
+/// Shows each of the texts.
 fn show_each(rt: HostRuntime, texts: &[&[u8]]) -> Result<(), Error> {
     for text in texts {
         show_text(rt, text)?;

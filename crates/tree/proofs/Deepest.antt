@@ -104,5 +104,5 @@ module _ (rs : List Row) where
     first_deep None h = λ j l. h j (omega arith) l
     first_deep (Some k) h = (h.1, (λ s. omega (arith, h.2)), λ j l. h.3 j (omega arith) l)
 
-    pub too_deep : First (Shallow rs) (length rs) (deep 1 (children rs 0))
-    too_deep = first_deep _ (subst (FirstDeep rs 0 (length rs)) (sym deep_all) deep_is)
+    pub too_deep : (o : Option ℕ) → o ≡ deep 1 (children rs 0) → First (Shallow rs) (length rs) o
+    too_deep o is = first_deep o (subst (FirstDeep rs 0 (length rs)) (sym (is ∙ deep_all)) deep_is)

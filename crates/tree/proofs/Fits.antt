@@ -1,8 +1,9 @@
 -- The children of a row, tested place by place.
-use Rattle.std.proofs.Common.{◌≡◌, ℕ, ◌+◌, ◌<◌, ◌≤◌, Bool, true, false, List, [], ◌∷◌, length, get_or, Some, None, Option, sym, refl, ap, ◌∙◌, subst, true≢false, arith}
+use Rattle.std.proofs.Common.{◌≡◌, ℕ, ◌+◌, ◌<◌, ◌≤◌, Bool, true, false, List, [], ◌∷◌, length, get_or, Some, None, Option, sym, ap, ◌∙◌, subst, true≢false, arith}
 use Rattle.std.specs.Bool.{MatchBool}
 use Rattle.std.specs.Iterator.{AlwaysYields}
 use Rattle.std.specs.List.{AllWithin, HoldsAt, enumerate_from}
+use Rattle.std.proofs.lemmas.Bool.{false_from_ne_true}
 use Rattle.std.proofs.lemmas.Iterator.{YieldsList}
 use Rattle.std.proofs.lemmas.List.FromFn.{get_or-enumerate_from, length-enumerate_from}
 use Rattle.kinds.specs.Shape.{has}
@@ -41,10 +42,6 @@ kinds_come rs (k ∷ ks) it e same = (
 pub kinds_listed : (rs : List Row) (ks : List ℕ) (it : ChildRows) → rows_of it.rows.rows ≡ rs → kinds_of (rest it) ≡ ks → YieldsList GivesRow (kind_of rs) it ks
 kinds_listed rs ks it same e = record { runs = kinds_come rs ks it e same }
 
-not_true : (b : Bool) → (b ≡ true → ⊥) → false ≡ b
-not_true true h = absurd (h refl)
-not_true false h = refl
-
 -- the test of the child at a place, of this kind
 abbrev pub Passes : Row → ℕ → Bool → ℕ × ℕ → Type 0
 Passes r n b x = has (group_at r x.0 n) x.1 ≡ b
@@ -63,11 +60,11 @@ all_fit r n ks true e m all =
     (subst (λ n. may_have r.kind n ≡ true) e m, λ p h. subst (λ n. has (group_at r p n) (get_or ks p 0) ≡ true) e (passes_at r n ks p true h (all p (0, 0) (omega arith) (omega arith)))))
 all_fit r n ks false e m (k, l, fails) =
     let h : k < length ks = omega (arith, length-enumerate_from 0 ks) in
-    not_true (children_fit r ks)
-    (λ yes. true≢false (sym (subst (λ n. has (group_at r k n) (get_or ks k 0) ≡ true) (sym e) (((children_fit_by_place r ks).0 yes).1 k h)) ∙ passes_at r n ks k false h (fails (0, 0))))
+    sym (false_from_ne_true (children_fit r ks)
+    (λ yes. true≢false (sym (subst (λ n. has (group_at r k n) (get_or ks k 0) ≡ true) (sym e) (((children_fit_by_place r ks).0 yes).1 k h)) ∙ passes_at r n ks k false h (fails (0, 0)))))
 
 pub none_fit : (r : Row) (n : ℕ) (ks : List ℕ) → n ≡ length ks → may_have r.kind n ≡ false → false ≡ children_fit r ks
-none_fit r n ks e m = not_true (children_fit r ks) (λ yes. true≢false (sym ((children_fit_by_place r ks).0 yes).0 ∙ sym (ap (may_have r.kind) e) ∙ m))
+none_fit r n ks e m = sym (false_from_ne_true (children_fit r ks) (λ yes. true≢false (sym ((children_fit_by_place r ks).0 yes).0 ∙ sym (ap (may_have r.kind) e) ∙ m)))
 
 -- a row under another name of its kind
 abbrev pub named : ℕ → Row → Row

@@ -2,9 +2,7 @@
 use Rattle.std.proofs.Common.{◌≡◌, ℕ, zero, suc, ◌+◌, ◌-◌, ◌<◌, ◌≤◌, List, length, Some, sym, refl, ap, ◌∙◌, ⊎_elim, arith}
 use Rattle.std.proofs.lemmas.List.{get_or_past}
 use Rattle.std.proofs.lemmas.Bool.{cases_lt, lt-ltb, le-ltb, cond-true, cond-false, and_from, and_left, and_right}
-use Rattle.tree.specs.declared.nested.NestedRows.{NestedRows}
 use Rattle.tree.specs.declared.row.Row.{Row}
-use Rattle.tree.specs.Block.{rows_of}
 use Rattle.tree.specs.Forest.{Forest, nil, node, forced, grown, forest, blank, row_at, end_at, children, siblings, since, LawfulEnd, Nested}
 
 pub end_past : (rs : List Row) (j : ℕ) → length rs ≤ j → end_at rs j ≡ 0
@@ -17,10 +15,6 @@ nested rs all =
       within = λ i j a b. ⊎_elim (λ h. (all j h).within i (a, b)) (λ h. omega (arith, end_past rs j h)) (cases_lt j (length rs));
       whole = ⊎_elim (λ h. (all 0 h).whole refl) (λ h. omega (arith, end_past rs 0 h)) (cases_lt 0 (length rs));
     }
-
--- what rows with lawful ends say of them
-pub nested_rows : (r : NestedRows) → Nested (rows_of r.rows)
-nested_rows r = record { above = r.above; within = r.within; whole = r.whole }
 
 -- no row from j up to e ends past e
 pub record Span (rs : List Row) (j e : ℕ) : Type 0 where

@@ -1,6 +1,9 @@
 -- Every row of a lawful tree has a kind, and a mark of at most 1. So has the row of zeros past them.
-use Rattle.std.proofs.Common.{◌≡◌, ◌∙◌, Ok, Err, Result, ℕ, ◌<◌, ◌≤◌, Bool, true, false, cond, not, ◌==◌, List, [], ◌∷◌, length, zero, suc, ⊎_elim, subst, ap, refl, arith}
+use Rattle.std.proofs.Common.{◌≡◌, ◌∙◌, Ok, Err, Result, rules, ℕ, ◌<◌, ◌≤◌, Bool, true, false, cond, not, ◌==◌, List, [], ◌∷◌, length, zero, suc, ⊎_elim, subst, ap, refl, arith}
+use denote.Enum.Bare.{sameb}
+use denote.Enum.Declared.{tag_of}
 use Rattle.kinds.specs.Kinds.{assign, num, program}
+use Rattle.kinds.specs.contracts.kind.Kind.{the_type}
 use Rattle.std.specs.Result.{result_unwrap_or}
 use Rattle.kinds.specs.declared.kind.Kind.{Kind}
 use Rattle.kinds.specs.declared.kind.Kind.TheVariants.{Other}
@@ -49,3 +52,10 @@ unmarked (suc (suc m)) h = absurd (omega arith)
 pub decoded : (n : ℕ) (r : Result Kind UnknownKind) (k : Kind) → Decodes n r → (50 ≤ n → ⊥) → k ≡ result_unwrap_or r Other → number k ≡ n
 decoded n (Ok x) k d known e = ap number e ∙ d
 decoded n (Err f) k d known e = absurd (known d.1)
+
+-- kinds are equal exactly where their numbers are
+tag_is_number : (k : Kind) → tag_of the_type k ≡ number k
+tag_is_number k = search rules
+
+pub same_kind : (k a : Kind) (n : ℕ) → number k ≡ n → sameb the_type k a ≡ (n == number a)
+same_kind k a n e = (λ i. tag_is_number k i == tag_is_number a i) ∙ ap (λ n. n == number a) e

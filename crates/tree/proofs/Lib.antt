@@ -6,7 +6,6 @@ mod Fits
 mod Found
 mod Verdicts
 mod Passes
-pub mod Rising
 pub mod Direct
 mod Positions
 pub mod Split

@@ -17,7 +17,6 @@ use Rattle.tree.specs.Forest.{LawfulEnd, Nested, end_at, row_at}
 use Rattle.tree.specs.Shaped.{LawfulShape}
 use Rattle.tree.specs.Texts.{LawfulText}
 use Rattle.tree.specs.Verdict.{Verdict, bad_layout, bad_end, described, FirstOf, Ends, Depths, Shapes, Texts}
-use Rattle.tree.proofs.Grown.{nested_rows}
 use Rattle.tree.proofs.Sections.{length_rows}
 
 -- an answer is the block's sections, or says that there are none
@@ -80,4 +79,4 @@ lawful_ends : (rs : List Row) → Nested rs → (j : ℕ) → j < length rs → 
 lawful_ends rs n j h = record { above = n.above j h; within = λ i e. n.within i j e.0 e.1; whole = λ z. ap (end_at rs) z ∙ n.whole }
 
 pub ends_of : (block : List ℕ) (text : Bor (List ℕ)) (n : NestedRows) → SectionsOf block (record { rows = n.rows; text = text }) → FirstOf block (Ends block) None
-ends_of block text n own = ends block _ own None (lawful_ends _ (nested_rows n))
+ends_of block text n own = ends block _ own None (lawful_ends _ n.nested)

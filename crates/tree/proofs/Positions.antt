@@ -1,13 +1,11 @@
 -- Children that fit one after the other fit place by place.
-use Rattle.std.proofs.Common.{◌≡◌, ℕ, zero, suc, ◌+◌, ◌<◌, Bool, true, false, cond, eqb, List, [], ◌∷◌, length, get_or, sym, refl, ap, ◌∙◌, ⊎_elim, arith}
-use Rattle.std.proofs.lemmas.Bool.{and_from, and_parts, cases_eq, eq-eqb, ne_eqb}
+use Rattle.std.proofs.Common.{◌≡◌, ℕ, zero, suc, ◌+◌, ◌<◌, Bool, true, false, cond, eqb, List, [], ◌∷◌, length, get_or, sym, refl, ap, ◌∙◌, arith}
+use Rattle.std.proofs.Math.Dec.{eqb-suc-suc}
+use Rattle.std.proofs.lemmas.Bool.{and_from, and_parts, ne_eqb}
 use Rattle.kinds.specs.declared.shape.Group.{Group}
 use Rattle.kinds.specs.Shape.{first_child, has, last_child, later_child}
 use Rattle.tree.specs.declared.row.Row.{Row}
 use Rattle.tree.specs.Shaped.{ChildrenFitByPlace, each_fits, group_for, none_left}
-
-same_test : (a b c d : ℕ) → (a ≡ b → c ≡ d) → (c ≡ d → a ≡ b) → eqb a b ≡ eqb c d
-same_test a b c d f g = ⊎_elim (λ e. eq-eqb a b e ∙ sym (eq-eqb c d (f e))) (λ n. ne_eqb a b n ∙ sym (ne_eqb c d (λ e. n (g e)))) (cases_eq a b)
 
 cond_same : {A : Type 0} (b : Bool) (x : A) → cond b x x ≡ x
 cond_same true x = refl
@@ -30,7 +28,8 @@ module _ (r : Row) where
 
   next_place : (group : Group) (q n : ℕ) → placed group (suc q) (suc n) ≡ placed later q n
   next_place group q n =
-      let e : eqb (suc q + 1) (suc n) ≡ eqb (q + 1) n = same_test (suc q + 1) (suc n) (q + 1) n (λ h. omega arith) (λ h. omega arith) in
+      let up : suc q + 1 ≡ suc (q + 1) = omega arith in
+      let e = ap (λ p. eqb p (suc n)) up ∙ eqb-suc-suc (q + 1) n in
       ap (λ t. group_for (last_child r.kind) (cond t group later) (eqb (suc q + 1) (suc n))) (ne_eqb (suc q) 0 (λ h. omega arith))
       ∙ ap (λ b. group_for (last_child r.kind) later b) e
       ∙ ap (λ g. group_for (last_child r.kind) g (eqb (q + 1) n)) (sym (cond_same (eqb q 0) later))

@@ -5,7 +5,7 @@ use Rattle.tree.specs.declared.row.Row.{Row}
 use Rattle.tree.specs.declared.tree.Tree.{Tree}
 use Rattle.tree.specs.Forest.{Forest, Nested, children, end_at, forest, nil, node, row_at}
 use Rattle.tree.specs.Subject.{tree_rows}
-use Rattle.tree.proofs.Grown.{Span, end_in_rows, forest_none, forest_some, nested_rows, span_all, span_children, span_rest}
+use Rattle.tree.proofs.Grown.{Span, end_in_rows, forest_none, forest_some, span_all, span_children, span_rest}
 use Rattle.tree.proofs.Sections.{counted}
 
 abbrev pub append : Forest → Forest → Forest
@@ -14,7 +14,7 @@ append (node j r ks f) g = node j r ks (append f g)
 
 -- what a tree's own invariant says of its ends
 pub nested_of : (t : Tree) → Nested (tree_rows t)
-nested_of t = nested_rows t.rows
+nested_of t = t.rows.nested
 
 pub few_rows : (t : Tree) → length (tree_rows t) ≤ 65536
 few_rows t = let few = t.rows.rows.few in omega (arith, counted t.rows.rows.bytes.now)

@@ -25,6 +25,6 @@ pub record ComesRow (before : ChildRows) (c : ℕ) (after : ChildRows) : Type 0 
   pub below : before.parent < c
   pub inside : c < length (rows_of before.rows.rows)
 
--- one step: the next child, or none where none is left
+-- one step: the next child, or none where none is left; the rows stay
 abbrev pub GivesRow : ChildRows → Option ℕ → ChildRows → Type 0
-GivesRow before result after = MatchOption result ((rest before ≡ nil) × (rest after ≡ nil)) (λ c. ComesRow before c after)
+GivesRow before result after = MatchOption result ((rest before ≡ nil) × (rest after ≡ nil) × (after.rows ≡ before.rows)) (λ c. ComesRow before c after)

@@ -23,19 +23,10 @@ pub record LawfulEnd (rs : List Row) (j : ℕ) : Type 0 where
   pub whole : j ≡ 0 → end_at rs j ≡ length rs
 
 -- the same of every row, part by part
-abbrev pub Above : List Row → Type 0
-Above rs = (j : ℕ) → j < length rs → j < end_at rs j
-
-abbrev pub Within : List Row → Type 0
-Within rs = (i j : ℕ) → i < j → j < end_at rs i → end_at rs j ≤ end_at rs i
-
-abbrev pub Whole : List Row → Type 0
-Whole rs = end_at rs 0 ≡ length rs
-
 pub record Nested (rs : List Row) : Type 0 where
-  pub above : Above rs
-  pub within : Within rs
-  pub whole : Whole rs
+  pub above : (j : ℕ) → j < length rs → j < end_at rs j
+  pub within : (i j : ℕ) → i < j → j < end_at rs i → end_at rs j ≤ end_at rs i
+  pub whole : end_at rs 0 ≡ length rs
 
 -- a row with its number, its children and its later siblings, each a tree in turn
 pub data Forest : Type 0 where

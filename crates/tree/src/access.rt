@@ -33,10 +33,11 @@ impl<'a> Tree<'a> {
     }
 
     /// The kind of row j; `Kind::Other` past the rows.
+    #[tactic(auto, using(crate::proofs::KnownKinds::decoded, crate::proofs::KnownKinds::known))]
     pub fn kind(&self, j: usize) -> Kind
         ensures { number result ≡ (row_at (tree_rows self.now) j).kind }
     {
-        Kind::try_from(self.row(j).kind).unwrap_or(Kind::Other)
+        self.row(j).kind().unwrap_or(Kind::Other)
     }
 
     /// The first child of row j.
@@ -50,8 +51,8 @@ impl<'a> Tree<'a> {
         self.rows.first_child(j)
     }
 
-    /// The first row under row j after row c and what row c encloses: the next sibling, where row c is a child of row j.
-    /// None where row c does not stand under row j.
+    /// The first row under row j after row c and what row c encloses: the next sibling, where row c is a child of row
+    /// j. None where row c does not stand under row j.
     pub fn next_sibling(&self, c: usize, j: usize) -> Option<usize>
         ensures is { siblings (tree_rows self.now) c j ≡ since (tree_rows self.now) j result }
         ensures under { Under (tree_rows self.now) j result }
@@ -64,15 +65,13 @@ impl<'a> Tree<'a> {
     pub fn text_section(&self) -> &'a [u8]
         ensures { result.now ≡ tree_text self.now }
     {
-        let section = self.text;
-        section
+        self.text
     }
 
     /// The text of row j, which outlives the borrow of the tree; empty where the row has none.
     pub fn text(&self, j: usize) -> &'a [u8]
         ensures { result.now ≡ text_at (tree_text self.now) (row_at (tree_rows self.now) j) }
     {
-        let row = self.row(j);
-        row.text_in(self.text)
+        self.row(j).text_in(self.text)
     }
 }

@@ -5,7 +5,6 @@ ghost use Rattle.tree.specs.Block.{rows_of};
 use crate::nested::NestedRows;
 
 /// The numbers of a row's children, in their order.
-// `Children` steps in the same way. The passes of the check go over rows before there is a tree that it could borrow.
 #[derive(Clone, Copy)]
 pub(crate) struct ChildRows<'a> {
     pub(crate) rows: NestedRows<'a>,

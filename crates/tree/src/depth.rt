@@ -7,6 +7,7 @@ ghost use Rattle.tree.specs.Forest.{children};
 
 use crate::nested::NestedRows;
 
+/// The most rows that may enclose a row.
 const DEEPEST: u32 = 256;
 
 /// Whether so many enclosing rows are too many.
@@ -22,6 +23,7 @@ impl NestedRows<'_> {
     fn first_deep_under(&self, j: usize, depth: u32) -> Option<usize>
         ensures { result ≡ deep depth (children (rows_of self.now.rows) j) }
     {
+        // With `find_map` the closure and this function are a cycle of two measures, longer than this loop's invariant.
         for c in self.children(j) {
             if is_too_deep(depth) {
                 return Some(c);
@@ -34,6 +36,7 @@ impl NestedRows<'_> {
     }
 
     /// The first row that more than 256 rows enclose.
+    #[tactic(auto, using(crate::proofs::Deepest::too_deep))]
     pub(crate) fn first_deep(&self) -> Option<usize>
         ensures { First (Shallow (rows_of self.now.rows)) (length (rows_of self.now.rows)) result }
     {

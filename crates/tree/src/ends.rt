@@ -37,7 +37,7 @@ impl<'a> Rows<'a> {
         if self.end(0) != count {
             return Err(0);
         }
-        // No row before this one is known to be unlawful.
+        // No row before this one is known to be unlawful. A `try_fold` would fold it to a number that nobody reads.
         let mut limit = count;
         for j in 0..count {
             let end = self.end(j);

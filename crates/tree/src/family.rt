@@ -50,6 +50,7 @@ impl<'a> NestedRows<'a> {
     }
 }
 
+/// The number of the next child.
 impl Iterator for ChildRows<'_> {
     type Item = usize;
 

@@ -2,13 +2,16 @@
 ghost use Rattle.std.specs.Prelude.{MatchOption};
 ghost use Rattle.tree.specs.Block.{LawfulLayout, SectionsOf};
 
-use crate::row::Rows;
+use crate::row::{ROW_BYTES, Rows};
 use text::read_le32;
 
+/// How many bytes the header takes.
 const HEADER: usize = 16;
 
-const LONGEST_BLOCK: usize = 4_194_304;
+/// Longer blocks are refused whatever they hold.
+pub const LONGEST_BLOCK: usize = 4_194_304;
 
+/// Blocks of more rows are refused.
 const MOST_ROWS: usize = 65_536;
 
 /// The sections of a block.
@@ -18,7 +21,8 @@ pub(crate) struct Sections<'a> {
     pub(crate) text: &'a [u8],
 }
 
-/// The sections of a block, one after the other in it, or None where it is too short or too long, or they do not lie so.
+/// The sections of a block, one after the other in it, or None where it is too short or too long, or they do not lie
+/// so.
 pub(crate) fn sections_of(block: &[u8]) -> Option<Sections<'_>>
     ensures { MatchOption result (LawfulLayout block.now → ⊥) (SectionsOf block.now) }
 {
@@ -33,7 +37,7 @@ pub(crate) fn sections_of(block: &[u8]) -> Option<Sections<'_>>
         return None;
     }
     let text = block.get(text_offset..text_end)?;
-    let (bytes, rest) = block.get(rows_offset..rows_end)?.as_chunks::<20>();
+    let (bytes, rest) = block.get(rows_offset..rows_end)?.as_chunks::<ROW_BYTES>();
     if bytes.is_empty() || bytes.len() > MOST_ROWS || !rest.is_empty() {
         return None;
     }

@@ -18,6 +18,7 @@ mod shapes;
 mod texts;
 mod tree;
 
+pub use layout::LONGEST_BLOCK;
 pub use node::{Children, Node};
 pub use refusal::TreeFault;
 pub use row::Row;

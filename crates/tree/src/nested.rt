@@ -1,6 +1,6 @@
 //! Rows whose ends are lawful.
 ghost use Rattle.tree.specs.Block.{rows_of};
-ghost use Rattle.tree.specs.Forest.{Above, Whole, Within};
+ghost use Rattle.tree.specs.Forest.{Nested};
 
 use crate::row::Rows;
 
@@ -8,7 +8,5 @@ use crate::row::Rows;
 #[derive(Clone, Copy)]
 pub(crate) struct NestedRows<'a> {
     pub(crate) rows: Rows<'a>,
-    ghost above: { Above (rows_of rows) },
-    ghost within: { Within (rows_of rows) },
-    ghost whole: { Whole (rows_of rows) },
+    ghost nested: { Nested (rows_of rows) },
 }

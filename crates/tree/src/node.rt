@@ -1,7 +1,7 @@
 //! Nodes: rows of a tree, each with what stands under it.
-ghost use Rattle.std.specs.Prelude.{◌≡◌, ℕ, ◌<◌, length, Some};
-ghost use Rattle.tree.specs.Subject.{tree_rows};
+ghost use Rattle.std.specs.Prelude.{◌≡◌};
 
+use crate::child_rows::ChildRows;
 use crate::tree::Tree;
 
 /// A row of a tree, with what stands under it.
@@ -15,7 +15,6 @@ pub struct Node<'t, 'a> {
 #[derive(Clone, Copy)]
 pub struct Children<'t, 'a> {
     pub(crate) tree: &'t Tree<'a>,
-    pub(crate) parent: usize,
-    pub(crate) next: Option<usize>,
-    ghost under: { (row : ℕ) → next ≡ Some row → (parent < row) × (row < length (tree_rows tree.now)) },
+    pub(crate) rows: ChildRows<'a>,
+    ghost own: { rows.rows ≡ tree.now.rows },
 }

@@ -2,9 +2,8 @@
 ghost use Rattle.std.specs.Prelude.{◌≡◌, ◌==◌, ◌<◌, not, length};
 ghost use Rattle.std.specs.Iterator.{at_most};
 ghost use Rattle.kinds.specs.Number.{number};
-ghost use Rattle.tree.specs.Children.{Gives, left, place_of, row_of, width};
-ghost use Rattle.tree.specs.Forest.{children};
-ghost use Rattle.tree.specs.Subject.{tree_rows, tree_text};
+ghost use Rattle.tree.specs.Children.{Gives, GivesTwo, children_of, left, place_of, row_of, width};
+ghost use Rattle.tree.specs.Subject.{tree_text};
 ghost use Rattle.tree.specs.Texts.{text_at};
 
 use crate::node::{Children, Node};
@@ -12,6 +11,7 @@ use crate::tree::Tree;
 use kinds::kind::Kind;
 use text::Place;
 
+/// The next child.
 impl<'t, 'a> Iterator for Children<'t, 'a> {
     type Item = Node<'t, 'a>;
 
@@ -20,18 +20,14 @@ impl<'t, 'a> Iterator for Children<'t, 'a> {
     ghost remaining = { λ it. at_most (width (left it)) };
 
     fn next(&mut self) -> Option<Node<'t, 'a>> {
-        let row = self.next?;
-        self.next = self.tree.next_sibling(row, self.parent);
-        Some(Node {
-            tree: self.tree,
-            row,
-        })
+        let row = self.rows.next()?;
+        Some(self.tree.node(row))
     }
 }
 
 impl<'a> Tree<'a> {
     /// The node at row j; one of kind Other with nothing under it, past the rows.
-    pub fn node<'t>(&'t self, j: usize) -> Node<'t, 'a>
+    pub fn node(&self, j: usize) -> Node<'_, 'a>
         ensures tree { result.tree.now ≡ self.now }
         ensures row { result.row ≡ j }
     {
@@ -62,13 +58,15 @@ impl<'t, 'a> Node<'t, 'a> {
     }
 
     /// Whether the node is of this kind.
+    #[tactic(auto, using(crate::proofs::KnownKinds::same_kind))]
     pub fn is(self, kind: Kind) -> bool
         ensures { result ≡ ((row_of self.entry).kind == number kind) }
     {
-        self.tree.row(self.row).kind == kind.number()
+        self.kind() == kind
     }
 
     /// Whether the node's mark is 1, and not 0.
+    #[tactic(auto, using(crate::proofs::KnownKinds::unmarked, crate::proofs::KnownKinds::marked))]
     pub fn is_marked(self) -> bool
         ensures one { result ≡ ((row_of self.entry).mark == 1) }
         ensures zero { not result ≡ ((row_of self.entry).mark == 0) }
@@ -80,11 +78,7 @@ impl<'t, 'a> Node<'t, 'a> {
     pub fn place(self) -> Place
         ensures { result ≡ place_of (row_of self.entry) }
     {
-        let row = self.tree.row(self.row);
-        Place {
-            offset: row.offset,
-            length: row.length,
-        }
+        self.tree.row(self.row).place()
     }
 
     /// The text of the node, which outlives the borrow of the tree; empty where it has none.
@@ -96,14 +90,23 @@ impl<'t, 'a> Node<'t, 'a> {
 
     /// The children of the node.
     pub fn children(self) -> Children<'t, 'a>
-        ensures left { left result ≡ children (tree_rows self.entry.tree.now) self.entry.row }
+        ensures left { left result ≡ children_of self.entry }
         ensures tree { result.tree.now ≡ self.entry.tree.now }
-        ensures parent { result.parent ≡ self.entry.row }
+        ensures parent { result.rows.parent ≡ self.entry.row }
     {
         Children {
             tree: self.tree,
-            parent: self.row,
-            next: self.tree.first_child(self.row),
+            rows: self.tree.rows.children(self.row),
         }
+    }
+
+    /// The first two children of the node, or None where it has fewer.
+    pub fn first_two(self) -> Option<(Node<'t, 'a>, Node<'t, 'a>)>
+        ensures { GivesTwo self.entry result }
+    {
+        let mut children = self.children();
+        let first = children.next()?;
+        let second = children.next()?;
+        Some((first, second))
     }
 }

@@ -1,6 +1,6 @@
 //! What a check refuses a block for. docs/FAULTS.md has the numbers.
-ghost use Rattle.std.specs.Prelude.{◌≡◌, Some};
-ghost use Rattle.tree.specs.Verdict.{describe, reason_words};
+ghost use Rattle.std.specs.Prelude.{◌≡◌, ℕ, ◌<◌, List, length, Some};
+ghost use Rattle.tree.specs.Verdict.{Verdict, describe, reason_words};
 
 use fault::{Fault, Layer};
 use std::error::Error;
@@ -14,6 +14,16 @@ pub enum TreeFault {
     Depth { module: u32, row: usize },
     Shape { module: u32, row: usize },
     Text { module: u32, row: usize },
+}
+
+impl TreeFault {
+    /// The refusal of a block of more than 4,194,304 bytes, whatever they are.
+    #[tactic(auto, using(crate::specs::Verdict::bad_layout))]
+    pub fn too_long(module: u32) -> Self
+        ensures { (block : List ℕ) → 4194304 < length block → Verdict «module» block (Some (describe result)) }
+    {
+        Self::Layout { module }
+    }
 }
 
 /// The number, the layer, the module and the place of the refusal.
@@ -52,4 +62,5 @@ impl fmt::Display for TreeFault {
     }
 }
 
+/// No error lies under a refusal.
 impl Error for TreeFault {}

@@ -1,22 +1,48 @@
 //! The rows of a block, read from its bytes.
 ghost use Rattle.std.specs.Prelude.{◌≡◌, length};
+ghost use Rattle.kinds.specs.Number.{Decodes};
 ghost use Rattle.tree.specs.Block.{row_in, rows_of};
+ghost use Rattle.tree.specs.Children.{place_of};
 ghost use Rattle.tree.specs.Forest.{end_at, row_at};
 
-use crate::row::{Row, Rows};
-use text::read_le32;
+use crate::row::{ROW_BYTES, Row, Rows};
+use kinds::kind::{Kind, UnknownKind};
+use text::Place;
 
-/// The row in its twenty bytes: five numbers, one after the other.
-impl From<&[u8; 20]> for Row {
+/// The row in its bytes: five numbers, one after the other.
+impl From<&[u8; ROW_BYTES]> for Row {
     ghost from_gives = { λ bytes row. row ≡ row_in bytes.now 0 };
 
-    fn from(bytes: &[u8; 20]) -> Self {
+    fn from(bytes: &[u8; ROW_BYTES]) -> Self {
+        let ([kind, mark, offset, length, end], _) = bytes.as_chunks::<4>() else {
+            // Proved: twenty bytes are five times four.
+            unreachable!()
+        };
         Row {
-            kind: read_le32(bytes, 0),
-            mark: read_le32(bytes, 4),
-            offset: read_le32(bytes, 8),
-            length: read_le32(bytes, 12),
-            end: read_le32(bytes, 16),
+            kind: u32::from_le_bytes(*kind),
+            mark: u32::from_le_bytes(*mark),
+            offset: u32::from_le_bytes(*offset),
+            length: u32::from_le_bytes(*length),
+            end: u32::from_le_bytes(*end),
+        }
+    }
+}
+
+impl Row {
+    /// The kind of the row, or the number that no kind has.
+    pub(crate) fn kind(self) -> Result<Kind, UnknownKind>
+        ensures { Decodes self.kind result }
+    {
+        Kind::try_from(self.kind)
+    }
+
+    /// The place of the row's text.
+    pub(crate) fn place(self) -> Place
+        ensures { result ≡ place_of self }
+    {
+        Place {
+            offset: self.offset,
+            length: self.length,
         }
     }
 }
@@ -31,9 +57,11 @@ impl Rows<'_> {
     }
 
     /// Row j; a row of zeros past the rows.
+    #[tactic(auto, using(crate::proofs::Sections::row_read))]
     pub(crate) fn row(&self, j: usize) -> Row
         ensures { result ≡ row_at (rows_of self.now) j }
     {
+        // A call that asks nothing of its caller needs an answer for every number.
         self.bytes.get(j).map_or(Row::default(), Row::from)
     }
 

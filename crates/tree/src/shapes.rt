@@ -5,7 +5,8 @@ ghost use Rattle.kinds.specs.Shape.{first_child, last_child, later_child};
 ghost use Rattle.tree.specs.Block.{rows_of};
 ghost use Rattle.tree.specs.First.{First};
 ghost use Rattle.tree.specs.Forest.{children, row_at};
-ghost use Rattle.tree.specs.Shaped.{LawfulShape, children_fit, group_for, is_shaped, kinds_of, may_have, root_is_program};
+ghost use Rattle.tree.specs.Shaped.{LawfulShape, children_fit, group_for, is_shaped, kinds_of, may_have};
+ghost use Rattle.tree.specs.Shaped.{root_is_program};
 
 use crate::nested::NestedRows;
 use kinds::kind::Kind;
@@ -38,13 +39,7 @@ fn group_at(kind: Kind, mark: u32, place: usize, count: usize) -> Group
 fn may_have(kind: Kind, count: usize) -> bool
     ensures { result ≡ may_have (number kind) count }
 {
-    if kind.fewest_children() > count {
-        return false;
-    }
-    match kind.most_children() {
-        Some(most) => count <= most,
-        None => true,
-    }
+    kind.fewest_children() <= count && kind.most_children().is_none_or(|most| count <= most)
 }
 
 /// Whether row 0 is a Program, or another row is none.
@@ -74,7 +69,7 @@ impl NestedRows<'_> {
         ensures { result ≡ is_shaped (rows_of self.now.rows) j }
     {
         let row = self.rows.row(j);
-        let Ok(kind) = Kind::try_from(row.kind) else {
+        let Ok(kind) = row.kind() else {
             return false;
         };
         root_is_program(j, kind) && row.mark <= kind.highest_mark() && self.children_fit(j, kind)

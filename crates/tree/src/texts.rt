@@ -7,8 +7,8 @@ ghost use Rattle.tree.specs.Texts.{Inside, LawfulText, text_at};
 
 use crate::row::{Row, Rows};
 use kinds::kind::Kind;
-use kinds::shape::Text;
-use text::{is_utf8, is_wtf8, part};
+use kinds::shape::Encoding;
+use text::{is_utf8, is_wtf8};
 
 impl Row {
     /// Whether the text of the row lies in its section.
@@ -22,17 +22,17 @@ impl Row {
     pub(crate) fn text_in<'a>(&self, section: &'a [u8]) -> &'a [u8]
         ensures { result.now ≡ text_at section.now self.now }
     {
-        part(section, self.offset as usize, self.length as usize)
+        self.place().part(section)
     }
 
     /// Whether the text of the row is lawful.
     fn is_lawful_text(&self, section: &[u8]) -> bool
         ensures { Decides result (LawfulText section.now self.now) }
     {
-        match Kind::try_from(self.kind).map_or(Text::Absent, |kind| kind.text()) {
-            Text::Absent => self.offset == 0 && self.length == 0,
-            Text::Utf8 => self.is_inside(section) && is_utf8(self.text_in(section)),
-            Text::Wtf8 => self.is_inside(section) && is_wtf8(self.text_in(section)),
+        match self.kind().ok().and_then(Kind::text) {
+            None => self.offset == 0 && self.length == 0,
+            Some(Encoding::Utf8) => self.is_inside(section) && is_utf8(self.text_in(section)),
+            Some(Encoding::Wtf8) => self.is_inside(section) && is_wtf8(self.text_in(section)),
         }
     }
 }
@@ -42,6 +42,8 @@ impl Rows<'_> {
     pub(crate) fn first_unlawful_text(&self, section: &[u8]) -> Option<usize>
         ensures { First (λ j. LawfulText section.now (row_at (rows_of self.now) j)) (length (rows_of self.now)) result }
     {
-        (0..self.count()).find(|j| !self.row(*j).is_lawful_text(section))
+        self.bytes
+            .iter()
+            .position(|bytes| !Row::from(bytes).is_lawful_text(section))
     }
 }

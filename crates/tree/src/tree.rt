@@ -8,8 +8,8 @@ ghost use Rattle.tree.specs.Texts.{LawfulText};
 
 use crate::nested::NestedRows;
 
-/// The rows and the text of a lawful block, and the module that it belongs to. Only a check makes one, so an unchecked block
-/// cannot be analysed.
+/// The rows and the text of a lawful block, and the module that it belongs to. Only a check makes one, so an unchecked
+/// block cannot be analysed.
 #[derive(Clone, Copy)]
 pub struct Tree<'a> {
     pub(crate) module: u32,

@@ -3,7 +3,6 @@ use Rattle.std.specs.Ordering.{nat_cmp}
 use Rattle.std.proofs.lemmas.Iterator.Consumers.{YieldsList-from_first}
 use Rattle.std.proofs.lemmas.Iterator.Search.{cmp_from_yields_List}
 use Rattle.text.specs.Reading.{to_come}
-use Rattle.text.proofs.Orders.{loose_order_is_total}
 use Rattle.text.proofs.reading.compare_loose.Goals as goal
 
 pub returns-clause-by_bytes : goal.returns-clause-by_bytes
@@ -12,6 +11,3 @@ returns-clause-by_bytes c =
     (YieldsList-from_first (λ x. x) to_come _ c.new.ensures)
     (λ it h. YieldsList-from_first (λ x. x) to_come _ (ap to_come h ∙ c.new-2.ensures))
     (λ x y. refl)
-
-pub returns-clause-total : goal.returns-clause-total
-returns-clause-total c = loose_order_is_total

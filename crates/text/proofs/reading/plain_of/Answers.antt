@@ -2,7 +2,6 @@ use Rattle.std.proofs.Common.{rules, sym, ◌∙◌}
 use borrow.Author.Tests.{tests}
 use Rattle.std.proofs.lemmas.Bool.{cond-true, cond-false}
 use Rattle.text.proofs.Bytewise.{marked_from_any}
-use Rattle.text.proofs.ByPoints.{plain_by_code_points}
 use Rattle.text.proofs.reading.plain_of.Goals as goal
 
 pub returns-then-any-clause-reading : goal.returns-then-any-clause-reading
@@ -10,13 +9,7 @@ returns-then-any-clause-reading c =
     let found = marked_from_any _ _ c.any.result c.args.text.now c.any.ensures.ran c.windows.ensures.rest c.windows.ensures.size (λ w b q k. search (rules, tests)) in
     sym (cond-true _ _ _ (sym found ∙ c.if-any.true))
 
-pub returns-then-any-clause-by_points : goal.returns-then-any-clause-by_points
-returns-then-any-clause-by_points c = plain_by_code_points
-
 pub returns-else-any-clause-reading : goal.returns-else-any-clause-reading
 returns-else-any-clause-reading c =
     let found = marked_from_any _ _ c.any.result c.args.text.now c.any.ensures.ran c.windows.ensures.rest c.windows.ensures.size (λ w b q k. search (rules, tests)) in
     sym (cond-false _ _ _ (sym found ∙ c.if-any.false))
-
-pub returns-else-any-clause-by_points : goal.returns-else-any-clause-by_points
-returns-else-any-clause-by_points c = plain_by_code_points

@@ -4,14 +4,8 @@ use lib.Seq.{sets, sets-eq}
 use Rattle.std.proofs.lemmas.Bool.{cond-true, le-leb}
 use Rattle.std.specs.Iterator.Adapters.{zip_first, zip_second}
 use Rattle.text.specs.Reading.{loose, to_come}
-use Rattle.text.proofs.ByPoints.{length_loose, loose_by_code_points}
+use Rattle.text.proofs.ByPoints.{length_loose}
 use Rattle.text.proofs.reading.write_loose.Goals as goal
-
-pub returns-in_err-end-clause-by_points : goal.returns-in_err-end-clause-by_points
-returns-in_err-end-clause-by_points c = loose_by_code_points
-
-pub returns-clause-by_points : goal.returns-clause-by_points
-returns-clause-by_points c = loose_by_code_points
 
 pub loop-i-init : goal.loop-i-init
 loop-i-init c =

@@ -23,5 +23,4 @@ pub invariant_of-result : goal.invariant_of-result
 invariant_of-result c =
     let rs = rows_of c.args.self in
     let w : end_at rs 0 ≡ length rs = sym c.end.ensures ∙ c.if-end-count.false ∙ c.count-count.ensures in
-    let n = nested rs (λ j h. lawful_to rs _ _ c.loop-j.invariant w j (omega arith)) in
-    record { above = n.above; within = n.within; whole = n.whole }
+    record { nested = nested rs (λ j h. lawful_to rs _ _ c.loop-j.invariant w j (omega arith)) }
