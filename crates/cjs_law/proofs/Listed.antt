@@ -1,10 +1,18 @@
 -- What is computed is what the words say, and nothing else is.
-use Rattle.std.proofs.Common.{◌≡◌, ℕ, Bool, true, false, cond, ◌⊎◌, ◌↔◌, List, [], ◌∷◌, ◌++◌, map, is_err, Ok, Err, filter, Result, Ordering, Less, Equal, Greater, sym, refl, ap, ◌∙◌, subst, inl, inr, ⊎_elim, true≢false}
-use Rattle.table.specs.Table.{by_rank, later, place, without}
+use Rattle.std.proofs.Common.{◌≡◌, ℕ, Bool, true, false, cond, ◌⊎◌, ◌↔◌, List, [], ◌∷◌, ◌++◌, map, is_err, Ok, Err, filter, Result, Ordering, Less, Equal, Greater, sym, refl, ap, ◌∙◌, subst, inl, inr, ⊎_elim, true≢false, arith}
+use Rattle.std.proofs.lemmas.List.{append-nil, append_assoc}
+use Rattle.table.specs.Table.{InOrder, by_rank, later, place, without}
+use Rattle.table.specs.Totals.{numbers_total}
+use Rattle.table.proofs.Rising.{ordered_entered, ordered_kept}
 use Rattle.text.specs.Reading.{order}
 use Rattle.text.proofs.Orders.{order_same}
-use Rattle.cjs_law.specs.Lists.{In, First, Has, Above, Ascends, Lists, insert, insert_all}
-use Rattle.cjs_law.proofs.Order.{order_own, order_trans, order_flip}
+use Rattle.cjs_law.specs.Lists.{In, First, Has, Lists, insert, insert_all}
+use Rattle.cjs_law.proofs.Ascending.{Above, Ascends, ascends_from}
+use Rattle.cjs_law.proofs.Order.{greater_apart, less_apart, order_own, order_trans}
+
+later_err : (p : Result ℕ ℕ) → is_err (later p) ≡ is_err p
+later_err (Ok i) = refl
+later_err (Err i) = refl
 
 module _ {X : Type 0} (key : X → List ℕ) where
   pub above_in : (k : List ℕ) (x : X) (xs : List X) → Above key k xs → In x xs → order k (key x) ≡ Less
@@ -17,7 +25,7 @@ module _ {X : Type 0} (key : X → List ℕ) where
   above_less k l (y ∷ ys) e h = (order_trans k l (key y) e h.0, above_less k l ys e h.1)
 
   pub not_own : (k : List ℕ) (x : X) → key x ≡ k → order k (key x) ≡ Less → ⊥
-  not_own k x e h = order_own k (ap (λ l. order k l) (sym e) ∙ h)
+  not_own k x e h = less_apart k (key x) h (sym e)
 
   -- ---- a list is determined by its members
 
@@ -40,34 +48,16 @@ module _ {X : Type 0} (key : X → List ℕ) where
       λ i. e i ∷ r i
 
   pub lists_one : (added : List X) (barred : List (List ℕ)) (xs ys : List X) → Lists key added barred xs → Lists key added barred ys → xs ≡ ys
-  lists_one added barred xs ys a b = same_members xs ys a.ascends b.ascends (λ x. ((λ i. (b.exact x).1 ((a.exact x).0 i)), (λ i. (a.exact x).1 ((b.exact x).0 i))))
+  lists_one added barred xs ys a b = same_members xs ys (ascends_from key xs a.ascends) (ascends_from key ys b.ascends) (λ x. ((λ i. (b.exact x).1 ((a.exact x).0 i)), (λ i. (a.exact x).1 ((b.exact x).0 i))))
 
   -- ---- insertion
-
-  above_by : (k : List ℕ) (r x : X) (xs ys : List X) (o : Ordering) → order k (key r) ≡ Less → Above key k (x ∷ xs) → Above key k ys → Above key k (by_rank o (r ∷ x ∷ xs) (x ∷ xs) (x ∷ ys))
-  above_by k r x xs ys Less e h g = (e, h)
-  above_by k r x xs ys Equal e h g = h
-  above_by k r x xs ys Greater e h g = (h.0, g)
-
-  above_insert : (k : List ℕ) (r : X) (xs : List X) → order k (key r) ≡ Less → Above key k xs → Above key k (insert key r xs)
-  above_insert k r [] e h = (e, tt)
-  above_insert k r (x ∷ xs) e h = above_by k r x xs (insert key r xs) (order (key r) (key x)) e h (above_insert k r xs e h.1)
-
-  ascends_by : (r x : X) (xs : List X) (o : Ordering) → order (key r) (key x) ≡ o → Ascends key (x ∷ xs) → Ascends key (insert key r xs) → Ascends key (by_rank o (r ∷ x ∷ xs) (x ∷ xs) (x ∷ insert key r xs))
-  ascends_by r x xs Less e h g = ((e, above_less (key r) (key x) xs e h.0), h)
-  ascends_by r x xs Equal e h g = h
-  ascends_by r x xs Greater e h g = (above_insert (key x) r xs (order_flip (key r) (key x) e) h.0, g)
-
-  ascends_insert : (r : X) (xs : List X) → Ascends key xs → Ascends key (insert key r xs)
-  ascends_insert r [] h = (tt, tt)
-  ascends_insert r (x ∷ xs) h = ascends_by r x xs (order (key r) (key x)) refl h (ascends_insert r xs h.1)
 
   lacks_above : (k : List ℕ) (xs : List X) → Above key k xs → Has key k xs → ⊥
   lacks_above k xs a h = not_own k h.0 h.2 (above_in k h.0 xs a h.1)
 
-  lacks_more : (k : List ℕ) (y : X) (ys : List X) → order k (key y) ≡ Greater → (Has key k ys → ⊥) → Has key k (y ∷ ys) → ⊥
-  lacks_more k y ys e n (z, (inl f), g) = order_own k (order_flip k k (ap (λ l. order k l) (sym (ap key (sym f) ∙ g)) ∙ e))
-  lacks_more k y ys e n (z, (inr i), g) = n (z, i, g)
+  lacks_front : (k : List ℕ) (y : X) (ys : List X) → (key y ≡ k → ⊥) → (Has key k ys → ⊥) → Has key k (y ∷ ys) → ⊥
+  lacks_front k y ys n m (z, (inl q), g) = n (ap key (sym q) ∙ g)
+  lacks_front k y ys n m (z, (inr i), g) = m (z, i, g)
 
   -- x was there, or it is r, whose key was not
   abbrev New : X → X → List X → Type 0
@@ -75,19 +65,15 @@ module _ {X : Type 0} (key : X → List ℕ) where
 
   new_more : (x r y : X) (ys : List X) → order (key r) (key y) ≡ Greater → New x r ys → New x r (y ∷ ys)
   new_more x r y ys e (inl i) = inl (inr i)
-  new_more x r y ys e (inr n) = inr (n.0, lacks_more (key r) y ys e n.1)
-
-  pub split_front : {A : Type 0} (x y : X) (ys : List X) → (x ≡ y → A) → (In x ys → A) → In x (y ∷ ys) → A
-  split_front x y ys f g (inl e) = f e
-  split_front x y ys f g (inr i) = g i
+  new_more x r y ys e (inr n) = inr (n.0, lacks_front (key r) y ys (λ q. greater_apart (key r) (key y) e (sym q)) n.1)
 
   in_by : (x r y : X) (ys : List X) (o : Ordering) → order (key r) (key y) ≡ o → Ascends key (y ∷ ys) → (In x (insert key r ys) → New x r ys) → In x (by_rank o (r ∷ y ∷ ys) (y ∷ ys) (y ∷ insert key r ys)) → New x r (y ∷ ys)
-  in_by x r y ys Less e a f i = split_front x r (y ∷ ys) (λ q. inr (q, lacks_above (key r) (y ∷ ys) (e, above_less (key r) (key y) ys e a.0))) (λ j. inl j) i
+  in_by x r y ys Less e a f i = ⊎_elim (λ q. inr (q, lacks_above (key r) (y ∷ ys) (e, above_less (key r) (key y) ys e a.0))) (λ j. inl j) i
   in_by x r y ys Equal e a f i = inl i
-  in_by x r y ys Greater e a f i = split_front x y (insert key r ys) (λ q. inl (inl q)) (λ j. new_more x r y ys e (f j)) i
+  in_by x r y ys Greater e a f i = ⊎_elim (λ q. inl (inl q)) (λ j. new_more x r y ys e (f j)) i
 
   in_insert : (x r : X) (xs : List X) → Ascends key xs → In x (insert key r xs) → New x r xs
-  in_insert x r [] a i = split_front x r [] (λ q. inr (q, λ h. absurd h.1)) (λ j. absurd j) i
+  in_insert x r [] a i = ⊎_elim (λ q. inr (q, λ h. absurd h.1)) (λ j. absurd j) i
   in_insert x r (y ∷ ys) a i = in_by x r y ys (order (key r) (key y)) refl a (in_insert x r ys a.1) i
 
   stays_by : (x r y : X) (ys : List X) (o : Ordering) → (In x ys → In x (insert key r ys)) → In x (y ∷ ys) → In x (by_rank o (r ∷ y ∷ ys) (y ∷ ys) (y ∷ insert key r ys))
@@ -116,23 +102,25 @@ module _ {X : Type 0} (key : X → List ℕ) where
   first_in x (y ∷ ys) (inl e) = inl e
   first_in x (y ∷ ys) (inr f) = inr (first_in x ys f.1)
 
-  pub ascends_first : (x : X) (xs : List X) → Ascends key xs → In x xs → First key x xs
+  ascends_first : (x : X) (xs : List X) → Ascends key xs → In x xs → First key x xs
   ascends_first x [] a i = absurd i
   ascends_first x (y ∷ ys) a (inl e) = inl e
   ascends_first x (y ∷ ys) a (inr i) = inr ((λ q. not_own (key y) x (sym q) (above_in (key y) x ys a.0 i)), ascends_first x ys a.1 i)
 
+  pub first_in_order : (x : X) (xs : List X) → InOrder order key xs → In x xs → First key x xs
+  first_in_order x xs h = ascends_first x xs (ascends_from key xs h)
+
   abbrev FirstOf : List ℕ → List X → Type 0
   FirstOf k xs = (x : X) × First key x xs × (key x ≡ k)
 
-  lift_by : (k : List ℕ) (y : X) (ys : List X) (o : Ordering) → order (key y) k ≡ o → (key y ≡ k → ⊥) → FirstOf k ys → FirstOf k (y ∷ ys)
-  lift_by k y ys o e n h = (h.0, inr ((λ q. n (q ∙ h.2)), h.1), h.2)
+  has_later : (k : List ℕ) (y : X) (ys : List X) → (key y ≡ k → ⊥) → (Has key k ys → FirstOf k ys) → Has key k (y ∷ ys) → FirstOf k (y ∷ ys)
+  has_later k y ys n f (z, (inl q), g) = absurd (n (ap key (sym q) ∙ g))
+  has_later k y ys n f (z, (inr i), g) = let h = f (z, i, g) in (h.0, inr ((λ q. n (q ∙ h.2)), h.1), h.2)
 
   has_by : (k : List ℕ) (y : X) (ys : List X) (o : Ordering) → order (key y) k ≡ o → (Has key k ys → FirstOf k ys) → Has key k (y ∷ ys) → FirstOf k (y ∷ ys)
+  has_by k y ys Less e f h = has_later k y ys (less_apart (key y) k e) f h
   has_by k y ys Equal e f h = (y, inl refl, order_same (key y) k e)
-  has_by k y ys Less e f (z, (inl q), g) = absurd (order_own k (ap (λ l. order l k) (sym (ap key (sym q) ∙ g)) ∙ e))
-  has_by k y ys Less e f (z, (inr i), g) = lift_by k y ys Less e (λ q. order_own k (ap (λ l. order l k) (sym q) ∙ e)) (f (z, i, g))
-  has_by k y ys Greater e f (z, (inl q), g) = absurd (order_own k (order_flip k k (ap (λ l. order l k) (sym (ap key (sym q) ∙ g)) ∙ e)))
-  has_by k y ys Greater e f (z, (inr i), g) = lift_by k y ys Greater e (λ q. order_own k (order_flip k k (ap (λ l. order l k) (sym q) ∙ e))) (f (z, i, g))
+  has_by k y ys Greater e f h = has_later k y ys (greater_apart (key y) k e) f h
 
   pub has_first : (k : List ℕ) (xs : List X) → Has key k xs → FirstOf k xs
   has_first k [] h = absurd h.1
@@ -140,10 +128,6 @@ module _ {X : Type 0} (key : X → List ℕ) where
 
   abbrev FirstNew : X → X → List X → Type 0
   FirstNew x a xs = First key x xs ⊎ ((x ≡ a) × (Has key (key a) xs → ⊥))
-
-  lacks_front : (k : List ℕ) (y : X) (ys : List X) → (key y ≡ k → ⊥) → (Has key k ys → ⊥) → Has key k (y ∷ ys) → ⊥
-  lacks_front k y ys n m (z, (inl q), g) = n (ap key (sym q) ∙ g)
-  lacks_front k y ys n m (z, (inr i), g) = m (z, i, g)
 
   first_more : (x a y : X) (ys : List X) → (key y ≡ key x → ⊥) → FirstNew x a ys → FirstNew x a (y ∷ ys)
   first_more x a y ys n (inl f) = inl (inr (n, f))
@@ -175,61 +159,34 @@ module _ {X : Type 0} (key : X → List ℕ) where
   has_back : (added xs : List X) → Free added xs → (k : List ℕ) → Has key k xs → Has key k added
   has_back added xs l k h = (h.0, first_in h.0 added ((l.exact h.0).0 h.1).0, h.2)
 
-  here : (P : X → Type 0) (x a : X) → x ≡ a → P a → P x
-  here P x a e p = subst P (sym e) p
-
   pub one_more : (added xs : List X) (a : X) → Free added xs → Free (added ++ a ∷ []) (insert key a xs)
   one_more added xs a l = record {
-    ascends = ascends_insert a xs l.ascends;
+    ascends = ordered_entered order key numbers_total (λ r x. x) (λ r x e. refl) a xs l.ascends;
     exact = λ x. (
       (λ i. (
         ⊎_elim
             (λ j. first_stays x a added ((l.exact x).0 j).0)
-            (λ n. here (λ z. First key z (added ++ a ∷ [])) x a n.0 (first_comes a added (λ h. n.1 (has_over added xs l (key a) h))))
-            (in_insert x a xs l.ascends i),
+            (λ n. subst (λ z. First key z (added ++ a ∷ [])) (sym n.0) (first_comes a added (λ h. n.1 (has_over added xs l (key a) h))))
+            (in_insert x a xs (ascends_from key xs l.ascends) i),
         λ b. b,
       )),
       (λ f. ⊎_elim
           (λ g. stays x a xs ((l.exact x).1 (g, λ b. b)))
-          (λ n. here (λ z. In z (insert key a xs)) x a n.0 (comes a xs (λ h. n.1 (has_back added xs l (key a) h))))
+          (λ n. subst (λ z. In z (insert key a xs)) (sym n.0) (comes a xs (λ h. n.1 (has_back added xs l (key a) h))))
           (first_append x a added f.0)),
     );
   }
 
   pub empty_lists : (barred : List (List ℕ)) → Lists key [] barred []
-  empty_lists barred = record { ascends = tt; exact = λ x. ((λ i. absurd i), (λ f. absurd f.0)) }
-
-  join_one : (xs : List X) (a : X) (ys : List X) → (xs ++ a ∷ []) ++ ys ≡ xs ++ a ∷ ys
-  join_one [] a ys = refl
-  join_one (x ∷ xs) a ys = ap (λ l. x ∷ l) (join_one xs a ys)
+  empty_lists barred = record { ascends = record { up = λ i j d a l. absurd (omega arith) }; exact = λ x. ((λ i. absurd i), (λ f. absurd f.0)) }
 
   pub all_more : (added rs xs : List X) → Free added xs → Free (added ++ rs) (insert_all key rs xs)
-  all_more added [] xs l = subst (λ q. Free q xs) (sym (append_nil added)) l
-    where
-      append_nil : (q : List X) → q ++ [] ≡ q
-      append_nil [] = refl
-      append_nil (x ∷ q) = ap (λ l. x ∷ l) (append_nil q)
-  all_more added (r ∷ rs) xs l = subst (λ q. Free q (insert_all key rs (insert key r xs))) (join_one added r rs) (all_more (added ++ r ∷ []) rs (insert key r xs) (one_more added xs r l))
+  all_more added [] xs l = subst (λ q. Free q xs) (sym (append-nil added)) l
+  all_more added (r ∷ rs) xs l = subst (λ q. Free q (insert_all key rs (insert key r xs))) (append_assoc added (r ∷ []) rs) (all_more (added ++ r ∷ []) rs (insert key r xs) (one_more added xs r l))
 
   -- ---- what is barred
 
   module _ (barred : List (List ℕ)) (test : X → Bool) (free : (x : X) → test x ≡ true → In (key x) barred → ⊥) (found : (x : X) → test x ≡ false → In (key x) barred) where
-    above_kept_by : (k : List ℕ) (y : X) (zs : List X) (t : Bool) → order k (key y) ≡ Less → Above key k zs → Above key k (cond t (y ∷ zs) zs)
-    above_kept_by k y zs true e h = (e, h)
-    above_kept_by k y zs false e h = h
-
-    above_kept : (k : List ℕ) (xs : List X) → Above key k xs → Above key k (filter test xs)
-    above_kept k [] h = tt
-    above_kept k (y ∷ ys) h = above_kept_by k y (filter test ys) (test y) h.0 (above_kept k ys h.1)
-
-    ascends_kept_by : (y : X) (zs : List X) (t : Bool) → Above key (key y) zs → Ascends key zs → Ascends key (cond t (y ∷ zs) zs)
-    ascends_kept_by y zs true a h = (a, h)
-    ascends_kept_by y zs false a h = h
-
-    ascends_kept : (xs : List X) → Ascends key xs → Ascends key (filter test xs)
-    ascends_kept [] h = tt
-    ascends_kept (y ∷ ys) h = ascends_kept_by y (filter test ys) (test y) (above_kept (key y) ys h.0) (ascends_kept ys h.1)
-
     abbrev Spared : X → List X → Type 0
     Spared x xs = In x xs × (In (key x) barred → ⊥)
 
@@ -254,7 +211,7 @@ module _ {X : Type 0} (key : X → List ℕ) where
 
     pub fewer : (added xs : List X) → Free added xs → Lists key added barred (filter test xs)
     fewer added xs l = record {
-      ascends = ascends_kept xs l.ascends;
+      ascends = ordered_kept order key test xs l.ascends;
       exact = λ x. (
         (λ i. let s = spared x xs i in (((l.exact x).0 s.0).0, s.1)),
         (λ f. stays_kept x xs f.1 ((l.exact x).1 (f.0, λ b. b))),
@@ -265,11 +222,7 @@ module _ {X : Type 0} (key : X → List ℕ) where
   placed_by : (k : List ℕ) (x : X) (xs : List X) (o : Ordering) → order k (key x) ≡ o → Ascends key (x ∷ xs) → (is_err (place order k (map key xs)) ≡ true → Has key k xs → ⊥) → is_err (by_rank o (Err 0) (Ok 0) (later (place order k (map key xs)))) ≡ true → Has key k (x ∷ xs) → ⊥
   placed_by k x xs Less e a f t h = lacks_above k (x ∷ xs) (e, above_less k (key x) xs e a.0) h
   placed_by k x xs Equal e a f t h = true≢false (sym t)
-  placed_by k x xs Greater e a f t h = lacks_more k x xs e (f (sym (later_err (place order k (map key xs))) ∙ t)) h
-    where
-      later_err : (p : Result ℕ ℕ) → is_err (later p) ≡ is_err p
-      later_err (Ok i) = refl
-      later_err (Err i) = refl
+  placed_by k x xs Greater e a f t h = lacks_front k x xs (λ q. greater_apart k (key x) e (sym q)) (f (sym (later_err (place order k (map key xs))) ∙ t)) h
 
   pub lacks_placed : (k : List ℕ) (xs : List X) → Ascends key xs → is_err (place order k (map key xs)) ≡ true → Has key k xs → ⊥
   lacks_placed k [] a t h = absurd h.1
@@ -279,10 +232,6 @@ module _ {X : Type 0} (key : X → List ℕ) where
   has_placed_by k x xs Less e f t = absurd (true≢false t)
   has_placed_by k x xs Equal e f t = (x, inl refl, sym (order_same k (key x) e))
   has_placed_by k x xs Greater e f t = let h = f (sym (later_err (place order k (map key xs))) ∙ t) in (h.0, inr h.1, h.2)
-    where
-      later_err : (p : Result ℕ ℕ) → is_err (later p) ≡ is_err p
-      later_err (Ok i) = refl
-      later_err (Err i) = refl
 
   pub has_placed : (k : List ℕ) (xs : List X) → is_err (place order k (map key xs)) ≡ false → Has key k xs
   has_placed k [] t = absurd (true≢false t)
@@ -302,7 +251,7 @@ module _ {X : Type 0} (key : X → List ℕ) where
   pub without_lists : (marked others added xs : List X) → Free marked others → Free added xs → Lists key added (map key marked) (without order key others xs)
   without_lists marked others added xs m l =
       fewer (map key marked) (λ r. is_err (place order (key r) (map key others)))
-      (λ x t i. lacks_placed (key x) others m.ascends t (has_over marked others m (key x) (in_keys (key x) marked i)))
+      (λ x t i. lacks_placed (key x) others (ascends_from key others m.ascends) t (has_over marked others m (key x) (in_keys (key x) marked i)))
       (λ x t. keys_in (key x) marked (has_back marked others m (key x) (has_placed (key x) others t)))
       added xs l
 

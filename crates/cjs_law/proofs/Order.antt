@@ -18,3 +18,10 @@ order_trans = (lists_total nat_cmp_total).trans
 
 pub order_flip : (a b : List ℕ) → order a b ≡ Greater → order b a ≡ Less
 order_flip a b e = (lists_total nat_cmp_total).antisymm b a ∙ ap ordering_reverse e
+
+-- keys that are not equal by the order are two keys
+pub less_apart : (a b : List ℕ) → order a b ≡ Less → a ≡ b → ⊥
+less_apart a b e q = order_own a (ap (order a) q ∙ e)
+
+pub greater_apart : (a b : List ℕ) → order a b ≡ Greater → a ≡ b → ⊥
+greater_apart a b e q = less_apart b a (order_flip a b e) (sym q)

@@ -3,33 +3,18 @@ use Rattle.std.proofs.Common.{◌≡◌, ℕ, ◌⊎◌, List, [], ◌∷◌, �
 use Rattle.table.specs.Table.{by_rank, put_row}
 use Rattle.text.specs.Reading.{order}
 use Rattle.text.proofs.Orders.{order_same}
-use Rattle.cjs_law.specs.Lists.{In, Above, Ascends, Lists, insert, insert_all}
-use Rattle.cjs_law.proofs.Order.{order_own, order_flip}
-use Rattle.cjs_law.proofs.Listed.{above_in, above_less, not_own, split_front}
+use Rattle.cjs_law.specs.Lists.{In, Lists, insert, insert_all}
+use Rattle.table.specs.Totals.{numbers_total}
+use Rattle.table.proofs.Rising.{ordered_entered}
+use Rattle.cjs_law.proofs.Ascending.{Ascends, ascends_from}
+use Rattle.cjs_law.proofs.Order.{greater_apart}
+use Rattle.cjs_law.proofs.Listed.{above_in, above_less, not_own}
 
 module _ {X : Type 0} (key : X → List ℕ) where
   abbrev put : X → List X → List X
   put a xs = put_row order key a xs
 
-  above_by : (k : List ℕ) (a x : X) (xs ys : List X) (o : Ordering) → order k (key a) ≡ Less → Above key k (x ∷ xs) → Above key k ys → Above key k (by_rank o (a ∷ x ∷ xs) (a ∷ xs) (x ∷ ys))
-  above_by k a x xs ys Less e h g = (e, h)
-  above_by k a x xs ys Equal e h g = (e, h.1)
-  above_by k a x xs ys Greater e h g = (h.0, g)
-
-  above_put : (k : List ℕ) (a : X) (xs : List X) → order k (key a) ≡ Less → Above key k xs → Above key k (put a xs)
-  above_put k a [] e h = (e, tt)
-  above_put k a (x ∷ xs) e h = above_by k a x xs (put a xs) (order (key a) (key x)) e h (above_put k a xs e h.1)
-
-  ascends_by : (a x : X) (xs : List X) (o : Ordering) → order (key a) (key x) ≡ o → Ascends key (x ∷ xs) → Ascends key (put a xs) → Ascends key (by_rank o (a ∷ x ∷ xs) (a ∷ xs) (x ∷ put a xs))
-  ascends_by a x xs Less e h g = ((e, above_less key (key a) (key x) xs e h.0), h)
-  ascends_by a x xs Equal e h g = (subst (λ k. Above key k xs) (sym (order_same (key a) (key x) e)) h.0, h.1)
-  ascends_by a x xs Greater e h g = (above_put (key x) a xs (order_flip (key a) (key x) e) h.0, g)
-
-  ascends_put : (a : X) (xs : List X) → Ascends key xs → Ascends key (put a xs)
-  ascends_put a [] h = (tt, tt)
-  ascends_put a (x ∷ xs) h = ascends_by a x xs (order (key a) (key x)) refl h (ascends_put a xs h.1)
-
-  -- x is a, or was there with another key
+  -- x is a, or was there with another key; after `insert` a row may stand for a, so that members are told there by lemmas of their own
   abbrev Over : X → X → List X → Type 0
   Over x a xs = (x ≡ a) ⊎ ((key a ≡ key x → ⊥) × In x xs)
 
@@ -37,19 +22,16 @@ module _ {X : Type 0} (key : X → List ℕ) where
   over_more x a y ys (inl q) = inl q
   over_more x a y ys (inr n) = inr (n.0, inr n.1)
 
-  other : (k l : List ℕ) → order k l ≡ Greater → k ≡ l → ⊥
-  other k l e q = order_own k (order_flip k k (ap (λ m. order k m) q ∙ e))
-
   in_by : (x a y : X) (ys : List X) (o : Ordering) → order (key a) (key y) ≡ o → Ascends key (y ∷ ys) → (In x (put a ys) → Over x a ys) → In x (by_rank o (a ∷ y ∷ ys) (a ∷ ys) (y ∷ put a ys)) → Over x a (y ∷ ys)
-  in_by x a y ys Less e h f i = split_front key x a (y ∷ ys) (λ q. inl q)
+  in_by x a y ys Less e h f i = ⊎_elim (λ q. inl q)
       (λ j. inr ((λ q. not_own key (key a) x (sym q) (above_in key (key a) x (y ∷ ys) (e, above_less key (key a) (key y) ys e h.0) j)), j)) i
-  in_by x a y ys Equal e h f i = split_front key x a ys (λ q. inl q)
+  in_by x a y ys Equal e h f i = ⊎_elim (λ q. inl q)
       (λ j. inr ((λ q. not_own key (key y) x (sym q ∙ order_same (key a) (key y) e) (above_in key (key y) x ys h.0 j)), inr j)) i
-  in_by x a y ys Greater e h f i = split_front key x y (put a ys)
-      (λ q. inr ((λ g. other (key a) (key y) e (g ∙ ap key q)), inl q)) (λ j. over_more x a y ys (f j)) i
+  in_by x a y ys Greater e h f i = ⊎_elim
+      (λ q. inr ((λ g. greater_apart (key a) (key y) e (g ∙ ap key q)), inl q)) (λ j. over_more x a y ys (f j)) i
 
   in_put : (x a : X) (xs : List X) → Ascends key xs → In x (put a xs) → Over x a xs
-  in_put x a [] h i = split_front key x a [] (λ q. inl q) (λ j. absurd j) i
+  in_put x a [] h i = ⊎_elim (λ q. inl q) (λ j. absurd j) i
   in_put x a (y ∷ ys) h i = in_by x a y ys (order (key a) (key y)) refl h (in_put x a ys h.1) i
 
   own_by : (a y : X) (ys : List X) (o : Ordering) → In a (put a ys) → In a (by_rank o (a ∷ y ∷ ys) (a ∷ ys) (y ∷ put a ys))
@@ -74,9 +56,9 @@ module _ {X : Type 0} (key : X → List ℕ) where
 
   pub put_more : (added xs : List X) (a : X) → Lists key added [] xs → Lists key (a ∷ added) [] (put a xs)
   put_more added xs a l = record {
-    ascends = ascends_put a xs l.ascends;
+    ascends = ordered_entered order key numbers_total (λ r x. r) (λ r x e. e) a xs l.ascends;
     exact = λ x. (
-      (λ i. (⊎_elim (λ q. inl q) (λ n. inr (n.0, ((l.exact x).0 n.1).0)) (in_put x a xs l.ascends i), λ b. b)),
+      (λ i. (⊎_elim (λ q. inl q) (λ n. inr (n.0, ((l.exact x).0 n.1).0)) (in_put x a xs (ascends_from key xs l.ascends) i), λ b. b)),
       (λ f. ⊎_elim (λ q. subst (λ z. In z (put a xs)) (sym q) (own_put a xs)) (λ n. stays_put x a xs n.0 ((l.exact x).1 (n.1, λ b. b))) f.0),
     );
   }

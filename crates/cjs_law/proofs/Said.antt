@@ -4,32 +4,39 @@ use Rattle.text.specs.declared.place.Place.{Place}
 use Rattle.findings.specs.Tables.{Found}
 use Rattle.cjs_law.specs.declared.event.Event.{Event}
 use Rattle.cjs_law.specs.declared.event.Event.TheVariants.{Bind, Export, Reexport, Replace, Unsafe}
-use Rattle.cjs_law.specs.Findings.{Finds, exported, exported_by, loosely, marked_unsafe, reexported, reexported_after, reexported_by, unsafe_by}
+use Rattle.cjs_law.specs.Findings.{Finds, exported, exported_by, gathered, loosely, marked_unsafe, reexported, reexported_after, reexported_by, unsafe_by}
 use Rattle.cjs_law.specs.Laws.{ActsDecideTheLists, Adds, Exports, MarksUnsafe, Reexports}
 use Rattle.cjs_law.specs.Lists.{Has, In}
 use Rattle.cjs_law.specs.Walk.{Act}
 use Rattle.cjs_law.proofs.Listed.{has_listed, in_marked}
+use Rattle.cjs_law.proofs.Members.{in_either, in_left, in_right}
 use Rattle.cjs_law.proofs.Stands.{always_none, one_answer, outcome_from}
 
--- some act exports the place, or marks it unsafe
-
+-- some act has the event of this sort with the place
 abbrev SomeAct : (Place → Event) → List Act → Place → Type 0
 SomeAct sort acts p = (a : Act) × In a acts × (a.event ≡ sort p)
 
-further : (sort : Place → Event) (a : Act) (acts : List Act) (p : Place) → SomeAct sort acts p → SomeAct sort (a ∷ acts) p
-further sort a acts p s = (s.0, inr s.1, s.2)
+-- what is gathered is what some act says, where an event puts a place before the others exactly if it is of this sort
+module _ (sort : Place → Event) (by : Event → List Place → List Place) (only : (e : Event) (ps : List Place) (p : Place) → In p (by e ps) → (e ≡ sort p) ⊎ In p ps) (stays : (e : Event) (ps : List Place) (p : Place) → In p ps → In p (by e ps)) (comes : (ps : List Place) (p : Place) → In p (by (sort p) ps)) where
+  gathered_said : (acts : List Act) (p : Place) → In p (gathered by acts) → SomeAct sort acts p
+  gathered_said [] p i = absurd i
+  gathered_said (a ∷ acts) p i = ⊎_elim
+      (λ e. (a, inl refl, e))
+      (λ j. let s = gathered_said acts p j in (s.0, inr s.1, s.2))
+      (only a.event (gathered by acts) p i)
 
-exported_at : (e : Event) (a : Act) (acts : List Act) (p : Place) → a.event ≡ e → (In p (exported acts) → SomeAct Export acts p) → In p (exported_by e (exported acts)) → SomeAct Export (a ∷ acts) p
-exported_at (Bind k v) a acts p e f i = further Export a acts p (f i)
-exported_at (Export q) a acts p e f (inl s) = (a, inl refl, e ∙ ap Export (sym s))
-exported_at (Export q) a acts p e f (inr i) = further Export a acts p (f i)
-exported_at (Unsafe q) a acts p e f i = further Export a acts p (f i)
-exported_at (Reexport q) a acts p e f i = further Export a acts p (f i)
-exported_at (Replace q) a acts p e f i = further Export a acts p (f i)
+  said_gathered : (acts : List Act) (p : Place) (a : Act) → In a acts → a.event ≡ sort p → In p (gathered by acts)
+  said_gathered [] p a i e = absurd i
+  said_gathered (b ∷ acts) p a (inl q) e = subst (λ x. In p (by x (gathered by acts))) (sym (ap (λ z. z.event) (sym q) ∙ e)) (comes (gathered by acts) p)
+  said_gathered (b ∷ acts) p a (inr i) e = stays b.event (gathered by acts) p (said_gathered acts p a i e)
 
-exported_said : (acts : List Act) (p : Place) → In p (exported acts) → SomeAct Export acts p
-exported_said [] p i = absurd i
-exported_said (a ∷ acts) p i = exported_at a.event a acts p refl (exported_said acts p) i
+exported_only : (e : Event) (ps : List Place) (p : Place) → In p (exported_by e ps) → (e ≡ Export p) ⊎ In p ps
+exported_only (Bind k v) ps p i = inr i
+exported_only (Export q) ps p (inl s) = inl (ap Export (sym s))
+exported_only (Export q) ps p (inr i) = inr i
+exported_only (Unsafe q) ps p i = inr i
+exported_only (Reexport q) ps p i = inr i
+exported_only (Replace q) ps p i = inr i
 
 exported_stays : (e : Event) (ps : List Place) (p : Place) → In p ps → In p (exported_by e ps)
 exported_stays (Bind k v) ps p i = i
@@ -38,22 +45,13 @@ exported_stays (Unsafe q) ps p i = i
 exported_stays (Reexport q) ps p i = i
 exported_stays (Replace q) ps p i = i
 
-said_exported : (acts : List Act) (p : Place) (a : Act) → In a acts → a.event ≡ Export p → In p (exported acts)
-said_exported [] p a i e = absurd i
-said_exported (b ∷ acts) p a (inl q) e = subst (λ x. In p (exported_by x (exported acts))) (sym (ap (λ z. z.event) (sym q) ∙ e)) (inl refl)
-said_exported (b ∷ acts) p a (inr i) e = exported_stays b.event (exported acts) p (said_exported acts p a i e)
-
-unsafe_at : (e : Event) (a : Act) (acts : List Act) (p : Place) → a.event ≡ e → (In p (marked_unsafe acts) → SomeAct Unsafe acts p) → In p (unsafe_by e (marked_unsafe acts)) → SomeAct Unsafe (a ∷ acts) p
-unsafe_at (Bind k v) a acts p e f i = further Unsafe a acts p (f i)
-unsafe_at (Export q) a acts p e f i = further Unsafe a acts p (f i)
-unsafe_at (Unsafe q) a acts p e f (inl s) = (a, inl refl, e ∙ ap Unsafe (sym s))
-unsafe_at (Unsafe q) a acts p e f (inr i) = further Unsafe a acts p (f i)
-unsafe_at (Reexport q) a acts p e f i = further Unsafe a acts p (f i)
-unsafe_at (Replace q) a acts p e f i = further Unsafe a acts p (f i)
-
-unsafe_said : (acts : List Act) (p : Place) → In p (marked_unsafe acts) → SomeAct Unsafe acts p
-unsafe_said [] p i = absurd i
-unsafe_said (a ∷ acts) p i = unsafe_at a.event a acts p refl (unsafe_said acts p) i
+unsafe_only : (e : Event) (ps : List Place) (p : Place) → In p (unsafe_by e ps) → (e ≡ Unsafe p) ⊎ In p ps
+unsafe_only (Bind k v) ps p i = inr i
+unsafe_only (Export q) ps p i = inr i
+unsafe_only (Unsafe q) ps p (inl s) = inl (ap Unsafe (sym s))
+unsafe_only (Unsafe q) ps p (inr i) = inr i
+unsafe_only (Reexport q) ps p i = inr i
+unsafe_only (Replace q) ps p i = inr i
 
 unsafe_stays : (e : Event) (ps : List Place) (p : Place) → In p ps → In p (unsafe_by e ps)
 unsafe_stays (Bind k v) ps p i = i
@@ -62,27 +60,20 @@ unsafe_stays (Unsafe q) ps p i = inr i
 unsafe_stays (Reexport q) ps p i = i
 unsafe_stays (Replace q) ps p i = i
 
-said_unsafe : (acts : List Act) (p : Place) (a : Act) → In a acts → a.event ≡ Unsafe p → In p (marked_unsafe acts)
-said_unsafe [] p a i e = absurd i
-said_unsafe (b ∷ acts) p a (inl q) e = subst (λ x. In p (unsafe_by x (marked_unsafe acts))) (sym (ap (λ z. z.event) (sym q) ∙ e)) (inl refl)
-said_unsafe (b ∷ acts) p a (inr i) e = unsafe_stays b.event (marked_unsafe acts) p (said_unsafe acts p a i e)
+module _ (acts : List Act) (p : Place) where
+  exported_said : In p (exported acts) → SomeAct Export acts p
+  exported_said = gathered_said Export exported_by exported_only exported_stays (λ ps p. inl refl) acts p
+
+  said_exported : (a : Act) → In a acts → a.event ≡ Export p → In p (exported acts)
+  said_exported = said_gathered Export exported_by exported_only exported_stays (λ ps p. inl refl) acts p
+
+  unsafe_said : In p (marked_unsafe acts) → SomeAct Unsafe acts p
+  unsafe_said = gathered_said Unsafe unsafe_by unsafe_only unsafe_stays (λ ps p. inl refl) acts p
+
+  said_unsafe : (a : Act) → In a acts → a.event ≡ Unsafe p → In p (marked_unsafe acts)
+  said_unsafe = said_gathered Unsafe unsafe_by unsafe_only unsafe_stays (λ ps p. inl refl) acts p
 
 -- the re-exports since the last clearing
-
-in_last : {X : Type 0} (x : X) (xs : List X) (y : X) → In x (xs ++ y ∷ []) → In x xs ⊎ (x ≡ y)
-in_last x [] y (inl e) = inr e
-in_last x [] y (inr i) = absurd i
-in_last x (z ∷ xs) y (inl e) = inl (inl e)
-in_last x (z ∷ xs) y (inr i) = ⊎_elim (λ j. inl (inr j)) (λ e. inr e) (in_last x xs y i)
-
-in_front : {X : Type 0} (x : X) (xs : List X) (y : X) → In x xs → In x (xs ++ y ∷ [])
-in_front x [] y i = absurd i
-in_front x (z ∷ xs) y (inl e) = inl e
-in_front x (z ∷ xs) y (inr i) = inr (in_front x xs y i)
-
-in_end : {X : Type 0} (xs : List X) (y : X) → In y (xs ++ y ∷ [])
-in_end [] y = inl refl
-in_end (z ∷ xs) y = inr (in_end xs y)
 
 abbrev NoClearing : List Act → Type 0
 NoClearing acts = (b : Act) (q : Place) → In b acts → b.event ≡ Replace q → ⊥
@@ -112,8 +103,8 @@ reexported_at (Unsafe x) a acts ps p e s = keeps a acts ps p (λ q r. let z : �
 reexported_at (Reexport x) a acts ps p e (inl s) =
     ⊎_elim
     (λ i. inl (i, no_clearing_more a acts (λ q r. let z : ◌≡◌ {A = ℕ} 0 1 = cc in omega arith) s.1))
-    (λ q. inr (adds_here a acts p (inl (e ∙ ap Reexport (sym q))) s.1))
-    (in_last p ps x s.0)
+    (λ q. ⊎_elim (λ r. inr (adds_here a acts p (inl (e ∙ ap Reexport (sym r))) s.1)) (λ r. absurd r) q)
+    (in_either p ps (x ∷ []) s.0)
 reexported_at (Reexport x) a acts ps p e (inr d) = inr (later_adds a acts p d)
 reexported_at (Replace x) a acts ps p e (inl ((inl q), n)) = inr (adds_here a acts p (inr (e ∙ ap Replace (sym q))) n)
 reexported_at (Replace x) a acts ps p e (inl ((inr i), n)) = absurd i
@@ -127,7 +118,7 @@ stays_by : (e : Event) (ps : List Place) (p : Place) → ((q : Place) → e ≡ 
 stays_by (Bind k v) ps p n i = i
 stays_by (Export x) ps p n i = i
 stays_by (Unsafe x) ps p n i = i
-stays_by (Reexport x) ps p n i = in_front p ps x i
+stays_by (Reexport x) ps p n i = in_left p ps (x ∷ []) i
 stays_by (Replace x) ps p n i = absurd (n x refl)
 
 stays_reexported : (acts : List Act) (ps : List Place) (p : Place) → In p ps → NoClearing acts → In p (reexported_after ps acts)
@@ -135,7 +126,7 @@ stays_reexported [] ps p i n = i
 stays_reexported (a ∷ acts) ps p i n = stays_reexported acts (reexported_by a.event ps) p (stays_by a.event ps p (λ q e. n a q (inl refl) e) i) (λ b q j e. n b q (inr j) e)
 
 added_by : (e : Event) (ps : List Place) (p : Place) → (e ≡ Reexport p) ⊎ (e ≡ Replace p) → In p (reexported_by e ps)
-added_by e ps p (inl q) = subst (λ x. In p (reexported_by x ps)) (sym q) (in_end ps p)
+added_by e ps p (inl q) = subst (λ x. In p (reexported_by x ps)) (sym q) (in_right p ps (p ∷ []) (inl refl))
 added_by e ps p (inr q) = subst (λ x. In p (reexported_by x ps)) (sym q) (inl refl)
 
 said_reexported : (before : List Act) (a : Act) (after : List Act) (ps : List Place) (p : Place) → (a.event ≡ Reexport p) ⊎ (a.event ≡ Replace p) → NoClearing after → In p (reexported_after ps (before ++ a ∷ after))

@@ -2,14 +2,6 @@
 use Rattle.std.proofs.Common.{◌≡◌, ◌⊎◌, List, [], ◌∷◌, ◌++◌, sym, refl, ap, subst, inl, inr, ⊎_elim}
 
 module _ {X : Type 0} where
-  pub append_nil : (q : List X) → q ++ [] ≡ q
-  append_nil [] = refl
-  append_nil (x ∷ q) = ap (λ l. x ∷ l) (append_nil q)
-
-  pub join : (xs : List X) (a : X) (ys : List X) → (xs ++ a ∷ []) ++ ys ≡ xs ++ a ∷ ys
-  join [] a ys = refl
-  join (x ∷ xs) a ys = ap (λ l. x ∷ l) (join xs a ys)
-
   abbrev pub front : X → List X → X
   front d [] = d
   front d (x ∷ xs) = x

@@ -1,9 +1,11 @@
 -- What is computed is the outcome in words, and there is no other.
 use Rattle.std.proofs.Common.{◌≡◌, ℕ, Bool, true, false, cond, ◌&&◌, List, [], ◌∷◌, ◌++◌, map, Ok, Err, Result, sym, refl, ap, ◌∙◌, subst, ⊎_elim, true≢false, arith, le-leb, leb-true}
-use Rattle.cjs_law.specs.Findings.{Finds, Held, Fits, Always, Overflows, Outcome, outcome_after, held, safe, fits, loosely, by_name, bindings, exported, reexported, marked_unsafe}
+use Rattle.std.proofs.lemmas.Bool.{and_parts}
+use Rattle.std.proofs.lemmas.List.{append-nil, append_assoc}
+use Rattle.cjs_law.specs.Findings.{Finds, Held, Listing, Fits, Always, Overflows, Outcome, outcome_after, held, safe, fits, loosely, by_name, bindings, exported, reexported, marked_unsafe}
 use Rattle.cjs_law.specs.Walk.{Act}
 use Rattle.findings.specs.Tables.{Found, Room}
-use Rattle.cjs_law.proofs.Splits.{append_nil, fronts, join, nothing_left, places}
+use Rattle.cjs_law.proofs.Splits.{fronts, nothing_left, places}
 use Rattle.cjs_law.proofs.Listed.{lists_one, all_more, empty_lists, without_lists}
 
 pub held_holds : (T : List ℕ) (ds : List Act) → Held T ds (held T ds)
@@ -24,35 +26,19 @@ safe_finds T ds =
       unsafes = h.unsafes;
     }
 
-pub finds_one : (T : List ℕ) (ds : List Act) (f g : Found) → Finds T ds f → Finds T ds g → f ≡ g
-finds_one T ds f g a b =
-    let barred = map (loosely T) (marked_unsafe ds) in
-    λ i. record {
-      bindings = lists_one (by_name T) (bindings ds) [] f.bindings g.bindings a.bindings b.bindings i;
-      exports = lists_one (loosely T) (exported ds) barred f.exports g.exports a.exports b.exports i;
-      reexports = lists_one (loosely T) (reexported ds) barred f.reexports g.reexports a.reexports b.reexports i;
-      unsafes = lists_one (loosely T) (marked_unsafe ds) [] f.unsafes g.unsafes a.unsafes b.unsafes i;
-    }
-
-held_one : (T : List ℕ) (ds : List Act) (f g : Found) → Held T ds f → Held T ds g → f ≡ g
-held_one T ds f g a b = λ i. record {
+pub listing_one : (T : List ℕ) (ds : List Act) (barred : List (List ℕ)) (f g : Found) → Listing T ds barred f → Listing T ds barred g → f ≡ g
+listing_one T ds barred f g a b = λ i. record {
   bindings = lists_one (by_name T) (bindings ds) [] f.bindings g.bindings a.bindings b.bindings i;
-  exports = lists_one (loosely T) (exported ds) [] f.exports g.exports a.exports b.exports i;
-  reexports = lists_one (loosely T) (reexported ds) [] f.reexports g.reexports a.reexports b.reexports i;
+  exports = lists_one (loosely T) (exported ds) barred f.exports g.exports a.exports b.exports i;
+  reexports = lists_one (loosely T) (reexported ds) barred f.reexports g.reexports a.reexports b.reexports i;
   unsafes = lists_one (loosely T) (marked_unsafe ds) [] f.unsafes g.unsafes a.unsafes b.unsafes i;
 }
 
-pub four : (a b c d : Bool) → (a && b && c && d) ≡ true → (a ≡ true) × (b ≡ true) × (c ≡ true) × (d ≡ true)
-four true true true d e = (refl, refl, refl, e)
-four true true false d e = absurd (true≢false (sym e))
-four true false c d e = absurd (true≢false (sym e))
-four false b c d e = absurd (true≢false (sym e))
-
-all_four : (a b c d : Bool) → a ≡ true → b ≡ true → c ≡ true → d ≡ true → (a && b && c && d) ≡ true
-all_four a b c d p q r s = λ i. p i && q i && r i && s i
-
 pub so_fits : (room : Room) (f : Found) → Fits room f → fits room f ≡ true
-so_fits room f h = all_four _ _ _ _ (le-leb _ _ h.bindings) (le-leb _ _ h.exports) (le-leb _ _ h.reexports) (le-leb _ _ h.unsafes)
+so_fits room f h = λ i. le-leb _ _ h.bindings i && le-leb _ _ h.exports i && le-leb _ _ h.reexports i && le-leb _ _ h.unsafes i
+
+four : (a b c d : Bool) → (a && b && c && d) ≡ true → (a ≡ true) × (b ≡ true) × (c ≡ true) × (d ≡ true)
+four a b c d e = let p = and_parts (a && b && c) d e in let q = and_parts (a && b) c p.0 in let r = and_parts a b q.0 in (r.0, r.1, q.1, p.1)
 
 pub fits_so : (room : Room) (f : Found) → fits room f ≡ true → Fits room f
 fits_so room f e =
@@ -64,10 +50,10 @@ fits_not room f e h = true≢false (sym (so_fits room f h) ∙ e)
 
 module _ (T : List ℕ) (room : Room) where
   fits_held : (ds : List Act) (f : Found) → fits room (held T ds) ≡ true → Held T ds f → Fits room f
-  fits_held ds f e h = subst (Fits room) (held_one T ds (held T ds) f (held_holds T ds) h) (fits_so room (held T ds) e)
+  fits_held ds f e h = subst (Fits room) (listing_one T ds [] (held T ds) f (held_holds T ds) h) (fits_so room (held T ds) e)
 
   full_held : (ds : List Act) (f : Found) → fits room (held T ds) ≡ false → Held T ds f → Fits room f → ⊥
-  full_held ds f e h p = fits_not room (held T ds) e (subst (Fits room) (held_one T ds f (held T ds) h (held_holds T ds)) p)
+  full_held ds f e h p = fits_not room (held T ds) e (subst (Fits room) (listing_one T ds [] f (held T ds) h (held_holds T ds)) p)
 
   always_more : (ds : List Act) (d : Act) → Always T room ds → fits room (held T (ds ++ d ∷ [])) ≡ true → Always T room (ds ++ d ∷ [])
   always_more ds d h e b a f s k = ⊎_elim
@@ -83,9 +69,9 @@ module _ (T : List ℕ) (room : Room) where
   outcome_by before d ds false e h f = record { before = before; act = d; after = ds; split = refl; at = refl; fitted = h; full = λ g k p. full_held (before ++ d ∷ []) g e k p }
 
   pub outcome_from : (before ds : List Act) → Always T room before → Outcome T room (before ++ ds) (outcome_after T room before ds)
-  outcome_from before [] h = subst (λ l. Always T room l × Finds T l (safe T (held T before))) (sym (append_nil before)) (h, safe_finds T before)
+  outcome_from before [] h = subst (λ l. Always T room l × Finds T l (safe T (held T before))) (sym (append-nil before)) (h, safe_finds T before)
   outcome_from before (d ∷ ds) h = outcome_by before d ds (fits room (held T (before ++ d ∷ []))) refl h
-      (λ k. subst (λ l. Outcome T room l (outcome_after T room (before ++ d ∷ []) ds)) (join before d ds) (outcome_from (before ++ d ∷ []) ds k))
+      (λ k. subst (λ l. Outcome T room l (outcome_after T room (before ++ d ∷ []) ds)) (append_assoc before (d ∷ []) ds) (outcome_from (before ++ d ∷ []) ds k))
 
   not_both : (ds : List Act) (b : List Act) (d : Act) (c : List Act) → Always T room ds → ds ≡ (b ++ d ∷ []) ++ c → ((f : Found) → Held T (b ++ d ∷ []) f → Fits room f → ⊥) → ⊥
   not_both ds b d c h e n = n (held T (b ++ d ∷ [])) (held_holds T (b ++ d ∷ [])) (h (b ++ d ∷ []) c (held T (b ++ d ∷ [])) e (held_holds T (b ++ d ∷ [])))
@@ -99,7 +85,7 @@ module _ (T : List ℕ) (room : Room) where
       (places p.before p.act p.after q.before q.act q.after (sym p.split ∙ q.split))
 
   pub one_answer : (ds : List Act) (r s : Result Found ℕ) → Outcome T room ds r → Outcome T room ds s → r ≡ s
-  one_answer ds (Ok f) (Ok g) a b = ap Ok (finds_one T ds f g a.1 b.1)
-  one_answer ds (Ok f) (Err j) a b = absurd (not_both ds b.before b.act b.after a.0 (b.split ∙ sym (join b.before b.act b.after)) b.full)
-  one_answer ds (Err i) (Ok g) a b = absurd (not_both ds a.before a.act a.after b.0 (a.split ∙ sym (join a.before a.act a.after)) a.full)
+  one_answer ds (Ok f) (Ok g) a b = ap Ok (listing_one T ds (map (loosely T) (marked_unsafe ds)) f g a.1 b.1)
+  one_answer ds (Ok f) (Err j) a b = absurd (not_both ds b.before b.act b.after a.0 (b.split ∙ sym (append_assoc b.before (b.act ∷ []) b.after)) b.full)
+  one_answer ds (Err i) (Ok g) a b = absurd (not_both ds a.before a.act a.after b.0 (a.split ∙ sym (append_assoc a.before (a.act ∷ []) a.after)) a.full)
   one_answer ds (Err i) (Err j) a b = ap Err (one_row ds i j a b)

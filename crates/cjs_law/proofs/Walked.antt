@@ -1,22 +1,9 @@
 -- The walk comes to the rows under no skipped row.
-use Rattle.std.proofs.Common.{◌≡◌, Bool, true, false, cond, ◌⊎◌, List, [], ◌∷◌, ◌++◌, refl, inl, inr, ⊎_elim, true≢false}
+use Rattle.std.proofs.Common.{◌≡◌, Bool, true, false, cond, [], refl, inl, inr, ⊎_elim, true≢false}
 use Rattle.tree.specs.Forest.{Forest, nil, node}
 use Rattle.cjs_law.specs.Lists.{In}
 use Rattle.cjs_law.specs.Walk.{Reached, Visit, WalkReachesWhatIsNotSkipped, skips, walked}
-
-in_left : (v : Visit) (xs ys : List Visit) → In v xs → In v (xs ++ ys)
-in_left v [] ys i = absurd i
-in_left v (x ∷ xs) ys (inl e) = inl e
-in_left v (x ∷ xs) ys (inr i) = inr (in_left v xs ys i)
-
-in_right : (v : Visit) (xs ys : List Visit) → In v ys → In v (xs ++ ys)
-in_right v [] ys i = i
-in_right v (x ∷ xs) ys i = inr (in_right v xs ys i)
-
-in_either : (v : Visit) (xs ys : List Visit) → In v (xs ++ ys) → In v xs ⊎ In v ys
-in_either v [] ys i = inr i
-in_either v (x ∷ xs) ys (inl e) = inl (inl e)
-in_either v (x ∷ xs) ys (inr i) = ⊎_elim (λ a. inl (inr a)) (λ b. inr b) (in_either v xs ys i)
+use Rattle.cjs_law.proofs.Members.{in_either, in_left, in_right}
 
 under : (v : Visit) (ks : Forest) (t : Bool) → (In v (walked ks) → Reached v ks) → In v (cond t [] (walked ks)) → (t ≡ false) × Reached v ks
 under v ks true f i = absurd i

@@ -9,7 +9,7 @@ use Rattle.findings.specs.Tables.{Found, Room}
 use Rattle.cjs_law.specs.declared.event.Event.{Event}
 use Rattle.cjs_law.specs.declared.event.Event.TheVariants.{Bind, Export, Reexport, Replace, Unsafe}
 use Rattle.cjs_law.specs.Lists.{Lists, insert_all}
-use Rattle.cjs_law.specs.Walk.{Act}
+use Rattle.cjs_law.specs.Walk.{Act, after}
 
 -- the keys of rows: the loose reading of a place's text, and the name of a binding
 abbrev pub loosely : List ℕ → Place → List ℕ
@@ -17,6 +17,11 @@ loosely T p = place_kind.key T p
 
 abbrev pub by_name : List ℕ → Binding → List ℕ
 by_name T b = binding_kind.key T b
+
+-- what the acts gather, by what each of their events puts before that which the acts after it gather
+abbrev pub gathered : {X : Type 0} → (Event → List X → List X) → List Act → List X
+gathered by [] = []
+gathered by (a ∷ acts) = by a.event (gathered by acts)
 
 -- what the acts export, in order
 abbrev pub exported_by : Event → List Place → List Place
@@ -27,8 +32,7 @@ exported_by (Reexport p) ps = ps
 exported_by (Replace p) ps = ps
 
 abbrev pub exported : List Act → List Place
-exported [] = []
-exported (a ∷ acts) = exported_by a.event (exported acts)
+exported = gathered exported_by
 
 -- what they mark unsafe
 abbrev pub unsafe_by : Event → List Place → List Place
@@ -39,8 +43,7 @@ unsafe_by (Reexport p) ps = ps
 unsafe_by (Replace p) ps = ps
 
 abbrev pub marked_unsafe : List Act → List Place
-marked_unsafe [] = []
-marked_unsafe (a ∷ acts) = unsafe_by a.event (marked_unsafe acts)
+marked_unsafe = gathered unsafe_by
 
 -- what they re-export since the last clearing
 abbrev pub reexported_by : Event → List Place → List Place
@@ -51,11 +54,10 @@ reexported_by (Reexport p) ps = ps ++ p ∷ []
 reexported_by (Replace p) ps = p ∷ []
 
 abbrev pub reexported_after : List Place → List Act → List Place
-reexported_after ps [] = ps
-reexported_after ps (a ∷ acts) = reexported_after (reexported_by a.event ps) acts
+reexported_after = after reexported_by
 
 abbrev pub reexported : List Act → List Place
-reexported acts = reexported_after [] acts
+reexported = reexported_after []
 
 -- the bindings, the last first, since a later one replaces
 abbrev pub bound_by : Event → List Binding → List Binding
@@ -66,25 +68,25 @@ bound_by (Reexport p) bs = bs
 bound_by (Replace p) bs = bs
 
 abbrev pub bindings_after : List Binding → List Act → List Binding
-bindings_after bs [] = bs
-bindings_after bs (a ∷ acts) = bindings_after (bound_by a.event bs) acts
+bindings_after = after bound_by
 
 abbrev pub bindings : List Act → List Binding
-bindings acts = bindings_after [] acts
+bindings = bindings_after []
 
--- the lists that the acts come to, in words: an unsafe text is in neither list of names
-pub record Finds (T : List ℕ) (acts : List Act) (f : Found) : Type 0 where
+-- the lists that the acts come to, where a text of a barred reading is in neither list of names
+pub record Listing (T : List ℕ) (acts : List Act) (barred : List (List ℕ)) (f : Found) : Type 0 where
   pub bindings : Lists (by_name T) (bindings acts) [] f.bindings
-  pub exports : Lists (loosely T) (exported acts) (map (loosely T) (marked_unsafe acts)) f.exports
-  pub reexports : Lists (loosely T) (reexported acts) (map (loosely T) (marked_unsafe acts)) f.reexports
+  pub exports : Lists (loosely T) (exported acts) barred f.exports
+  pub reexports : Lists (loosely T) (reexported acts) barred f.reexports
   pub unsafes : Lists (loosely T) (marked_unsafe acts) [] f.unsafes
+
+-- the lists in words: an unsafe text is in neither list of names
+abbrev pub Finds : List ℕ → List Act → Found → Type 0
+Finds T acts = Listing T acts (map (loosely T) (marked_unsafe acts))
 
 -- the tables after these acts, while the walk goes on: no text is dropped yet
-pub record Held (T : List ℕ) (acts : List Act) (f : Found) : Type 0 where
-  pub bindings : Lists (by_name T) (bindings acts) [] f.bindings
-  pub exports : Lists (loosely T) (exported acts) [] f.exports
-  pub reexports : Lists (loosely T) (reexported acts) [] f.reexports
-  pub unsafes : Lists (loosely T) (marked_unsafe acts) [] f.unsafes
+abbrev pub Held : List ℕ → List Act → Found → Type 0
+Held T acts = Listing T acts []
 
 -- these have room
 pub record Fits (room : Room) (f : Found) : Type 0 where

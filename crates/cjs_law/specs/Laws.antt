@@ -2,18 +2,22 @@
 use Rattle.std.specs.Prelude.{◌≡◌, ℕ, ◌⊎◌, ◌↔◌, List, ◌∷◌, ◌++◌, Result, ◌≢◌}
 use Rattle.text.specs.declared.place.Place.{Place}
 use Rattle.findings.specs.Tables.{Found, Room}
+use Rattle.cjs_law.specs.declared.event.Event.{Event}
 use Rattle.cjs_law.specs.declared.event.Event.TheVariants.{Export, Reexport, Replace, Unsafe}
 use Rattle.cjs_law.specs.Findings.{Finds, Outcome, loosely, outcome}
 use Rattle.cjs_law.specs.Lists.{Has, In}
 use Rattle.cjs_law.specs.Walk.{Act}
 
--- some act exports a text of this reading
-abbrev pub Exports : List ℕ → List Act → List ℕ → Type 0
-Exports T acts reading = (a : Act) × (p : Place) × In a acts × (a.event ≡ Export p) × (loosely T p ≡ reading)
+-- some act has an event of this sort, with a text of this reading
+abbrev pub Says : (Place → Event) → List ℕ → List Act → List ℕ → Type 0
+Says sort T acts reading = (a : Act) × (p : Place) × In a acts × (a.event ≡ sort p) × (loosely T p ≡ reading)
 
--- some act marks a text of this reading unsafe
+-- some act exports it, or marks it unsafe
+abbrev pub Exports : List ℕ → List Act → List ℕ → Type 0
+Exports = Says Export
+
 abbrev pub MarksUnsafe : List ℕ → List Act → List ℕ → Type 0
-MarksUnsafe T acts reading = (a : Act) × (p : Place) × In a acts × (a.event ≡ Unsafe p) × (loosely T p ≡ reading)
+MarksUnsafe = Says Unsafe
 
 -- an act adds a place to the re-exports, and none after it clears them
 pub record Adds (acts : List Act) (p : Place) : Type 0 where

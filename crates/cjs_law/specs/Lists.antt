@@ -1,9 +1,9 @@
 -- Lists of the first rows of their keys, in order.
 use Rattle.std.specs.Prelude.{◌≡◌, ℕ, ◌⊎◌, ◌↔◌, List, [], ◌∷◌, ◌≢◌}
-use Rattle.std.specs.declared.cmp.Ordering.TheVariants.{Less}
-use Rattle.table.specs.Table.{insert_row}
+use Rattle.table.specs.Table.{InOrder, insert_row}
 use Rattle.text.specs.Reading.{order}
 
+-- x is one of these, row by row as the laws go; the library's `Contains` tells it by an index
 abbrev pub In : {X : Type 0} → X → List X → Type 0
 In x [] = ⊥
 In x (y ∷ ys) = (x ≡ y) ⊎ In x ys
@@ -17,19 +17,9 @@ First key x (y ∷ ys) = (x ≡ y) ⊎ ((key y ≢ key x) × First key x ys)
 abbrev pub Has : {X : Type 0} → (X → List ℕ) → List ℕ → List X → Type 0
 Has {X} key k xs = (x : X) × In x xs × (key x ≡ k)
 
--- every key is greater than k
-abbrev pub Above : {X : Type 0} → (X → List ℕ) → List ℕ → List X → Type 0
-Above key k [] = Unit {0}
-Above key k (y ∷ ys) = (order k (key y) ≡ Less) × Above key k ys
-
--- the keys ascend strictly
-abbrev pub Ascends : {X : Type 0} → (X → List ℕ) → List X → Type 0
-Ascends key [] = Unit {0}
-Ascends key (x ∷ xs) = Above key (key x) xs × Ascends key xs
-
--- xs ascends, and holds exactly the first of those added of each key that is none of the barred
+-- the keys of xs ascend strictly, and it holds exactly the first of those added of each key that is none of the barred
 pub record Lists {X : Type 0} (key : X → List ℕ) (added : List X) (barred : List (List ℕ)) (xs : List X) : Type 0 where
-  pub ascends : Ascends key xs
+  pub ascends : InOrder order key xs
   pub exact : (x : X) → In x xs ↔ (First key x added × (In (key x) barred → ⊥))
 
 -- one row after the other goes to its place, where none of its key stands

@@ -35,6 +35,11 @@ abbrev pub acts_at : ℕ → List Event → List Act
 acts_at j [] = []
 acts_at j (e ∷ es) = record { row = j; event = e } ∷ acts_at j es
 
+-- what stands after some acts, by what each of their events makes of what stood before it
+abbrev pub after : {X : Type 0} → (Event → X → X) → X → List Act → X
+after by was [] = was
+after by was (a ∷ acts) = after by (by a.event was) acts
+
 -- the specifier that a name is bound to after these acts: that of its last binding
 abbrev pub rebound : List ℕ → List ℕ → Event → Option Place → Option Place
 rebound T name (Bind k v) was = cond (bytes_eq (read T k) name) (Some v) was
@@ -44,8 +49,7 @@ rebound T name (Reexport p) was = was
 rebound T name (Replace p) was = was
 
 abbrev pub bound_after : List ℕ → Option Place → List Act → List ℕ → Option Place
-bound_after T was [] name = was
-bound_after T was (a ∷ acts) name = bound_after T (rebound T name a.event was) acts name
+bound_after T was acts name = after (rebound T name) was acts
 
 abbrev pub bound : List ℕ → List Act → List ℕ → Option Place
 bound T acts name = bound_after T None acts name

@@ -1,4 +1,5 @@
-//! What the walk over a tree does, and what its acts come to: definitions and laws, for the code of the CommonJS analysis.
+//! What the walk over a tree does, and what its acts come to: definitions and laws, for the code of the CommonJS
+//! analysis.
 #![tactic(auto)]
 
 ghost use Rattle.cjs_law.specs.Laws.{ActsDecideTheLists};

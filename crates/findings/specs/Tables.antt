@@ -43,12 +43,17 @@ pub record Hold (room : Room) (f : Found) (t : FindingsTables) : Type 0 where
   pub reexports : Left places.zero room.reexports f.reexports t.reexports.len t.reexports.rows.now
   pub unsafes : Left places.zero room.unsafes f.unsafes t.unsafes.len t.unsafes.rows.now
 
--- the rows are still lent by whoever lent them
+-- the rows of t are lent by whoever lent those of s
 pub record SameLenders (s t : FindingsTables) : Type 0 where
   pub bindings : t.bindings.rows.ghost_name ≡ s.bindings.rows.ghost_name
   pub exports : t.exports.rows.ghost_name ≡ s.exports.rows.ghost_name
   pub reexports : t.reexports.rows.ghost_name ≡ s.reexports.rows.ghost_name
   pub unsafes : t.unsafes.rows.ghost_name ≡ s.unsafes.rows.ghost_name
+
+-- the whole contents that are left in tables which were s: these lists, in the rows that were lent to s
+pub record Leaves (s : FindingsTables) (f : Found) (t : FindingsTables) : Type 0 where
+  pub holds : Hold (room_of s) f t
+  pub lenders : SameLenders s t
 
 -- the refusal by its number, its layer, its module and its place
 abbrev pub describe : FindingsFault → Fault
@@ -64,7 +69,7 @@ abbrev pub kept : Result Found ℕ → Found
 kept (Ok f) = f
 kept (Err row) = nothing
 
--- the answer of an analysis and the whole contents of the tables after it
-pub record Analysed (m : ℕ) (room : Room) (outcome : Result Found ℕ) (r : Result (Unit {0}) FindingsFault) (t : FindingsTables) : Type 0 where
+-- the answer of an analysis and the whole contents that it leaves in tables which were s
+pub record Analysed (m : ℕ) (s : FindingsTables) (outcome : Result Found ℕ) (r : Result (Unit {0}) FindingsFault) (t : FindingsTables) : Type 0 where
   pub answer : r ≡ answered m outcome
-  pub tables : Hold room (kept outcome) t
+  pub tables : Leaves s (kept outcome) t

@@ -15,8 +15,8 @@ pub enum ProgramKind {
     Script,
 }
 
-/// A borrowed program, the subject of the analyses. It is no enum of a module and a script, whose cases any caller could
-/// give to any tree: the tree's own root says which it is.
+/// A borrowed program, the subject of the analyses. It is no enum of a module and a script, whose cases any caller
+/// could give to any tree: the tree's own root says which it is.
 #[derive(Clone, Copy)]
 pub struct ProgramRef<'a> {
     tree: &'a Tree<'a>,
@@ -71,6 +71,7 @@ impl<'a> ProgramRef<'a> {
     }
 
     /// Whether the program is treated as a script: a module is where its first child that tells shows a script.
+    #[tactic(auto, using(crate::proofs::Telling::first_telling_child_decides))]
     pub fn compute_is_script(&self) -> bool
         ensures is { result ≡ is_script (tree_rows self.now.tree.now) }
         ensures first { FirstTellingChildDecides }

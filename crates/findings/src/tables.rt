@@ -1,5 +1,5 @@
 //! The four tables that the analyses fill, in memory that the caller lends.
-ghost use Rattle.findings.specs.Tables.{Hold, SameLenders, nothing, room_of};
+ghost use Rattle.findings.specs.Tables.{Leaves, nothing};
 
 use table::{Binding, OrderedTable};
 use text::Place;
@@ -16,8 +16,7 @@ pub struct FindingsTables<'t> {
 impl FindingsTables<'_> {
     /// Empties the four tables, whatever they held.
     pub fn clear(&mut self)
-        ensures cleared { Hold (room_of self.old) nothing self.new }
-        ensures lenders { SameLenders self.old self.new }
+        ensures { Leaves self.old nothing self.new }
     {
         self.bindings.clear();
         self.exports.clear();

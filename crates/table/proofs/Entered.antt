@@ -26,10 +26,13 @@ module _ {X : Type 0} (pick : X → X → X) (r : X) where
   shaped o key (x ∷ xs) = shaped_by x xs (enter_row pick o key r xs) (o (key r) (key x)) (place o (key r) (map key xs)) (shaped o key xs)
 
 module _ {X : Type 0} {z : X} {n : ℕ} {rows : List X} (rest : Rest z n rows) where
-  whole : rows ≡ padded z (length rows) (take n rows)
+  pub whole : rows ≡ padded z (length rows) (take n rows)
   whole =
       let l : length (take n rows) ≡ n = length-take-le n rows rest.fits in
       sym (take-append-drop n rows) ∙ ap (λ q. take n rows ++ q) (rest.zeros ∙ ap (λ m. replicate (length rows - m) z) (sym l))
+
+  pub as_they_are : Left z (length rows) (take n rows) n rows
+  as_they_are = record { len_is = sym (length-take-le n rows rest.fits); rows_is = whole }
 
   -- a row in the place of another
   pub replaces : (i : ℕ) (x : X) (ys : List X) → i < n → ys ≡ set (take n rows) i x → Stored z n rows ys false n (set rows i x)
@@ -62,22 +65,31 @@ module _ {X : Type 0} {z : X} {cap : ℕ} {ys : List X} {m : ℕ} {after : List 
   pub take_left : take m after ≡ ys
   take_left = (λ i. take (h.len_is i) (h.rows_is i)) ∙ take_at ys (replicate (cap - length ys) z) (length ys) refl
 
+  pub length_left : length ys ≤ cap → length after ≡ cap
+  length_left fits = ap length h.rows_is ∙ length-append ys (replicate (cap - length ys) z) ∙ omega (arith, length-replicate (cap - length ys) z)
+
   pub rest_left : length ys ≤ cap → Rest z m after
   rest_left fits =
-      let l : length after ≡ cap = ap length h.rows_is ∙ length-append ys (replicate (cap - length ys) z) ∙ omega (arith, length-replicate (cap - length ys) z) in
+      let l : length after ≡ cap = length_left fits in
       record { fits = omega (arith, h.len_is); zeros = (λ i. drop (h.len_is i) (h.rows_is i)) ∙ drop_at ys (replicate (cap - length ys) z) (length ys) refl ∙ (λ i. replicate (sym l i - sym h.len_is i) z) }
+
+-- what was stored is left, and there was room for it
+pub stored_left : {X : Type 0} {z : X} {n : ℕ} {rows ys : List X} {new : Bool} {m : ℕ} {after : List X} → Stored z n rows ys new m after → Left z (length rows) ys m after
+stored_left s = record { len_is = s.len_is; rows_is = s.rows_is }
+
+-- a table in which nothing is left holds, whatever the text
+pub nothing_holds : {X : Type 0} (k : Kind X) (text : List ℕ) {cap n : ℕ} {rows : List X} → Left k.zero cap [] n rows → Holds k text n rows
+nothing_holds k text l = record { ordered = rw (take_left l) (record { up = λ i j d h b. absurd (omega arith) }); rest = rest_left l (omega arith) }
 
 module _ {X : Type 0} (pick : X → X → X) {k : Kind X} {text : List ℕ} {n : ℕ} {rows : List X} (held : Holds k text n rows) (t : TotalOrder k.order) (kept : (r x : X) → k.key text r ≡ k.key text x → k.key text (pick r x) ≡ k.key text x) (r : X) where
   abbrev Left_in : {E : Type 0} → Result Bool E → ℕ → List X → Type 0
   Left_in = Entered k.zero n rows (enter_row pick k.order (k.key text) r (take n rows))
 
   holds : {E : Type 0} (a : Result Bool E) (m : ℕ) (after : List X) → Left_in a m after → Holds k text m after
-  holds (Ok new) m after h =
-      let left : Left k.zero (length rows) (enter_row pick k.order (k.key text) r (take n rows)) m after = record { len_is = h.len_is; rows_is = h.rows_is } in
-      record {
-        ordered = subst (InOrder k.order (k.key text)) (sym (take_left left)) (ordered_entered k.order (k.key text) t pick kept r (take n rows) held.ordered);
-        rest = rest_left left h.room;
-      }
+  holds (Ok new) m after h = record {
+    ordered = subst (InOrder k.order (k.key text)) (sym (take_left (stored_left h))) (ordered_entered k.order (k.key text) t pick kept r (take n rows) held.ordered);
+    rest = rest_left (stored_left h) h.room;
+  }
   holds (Err e) m after h = subst (λ i. Holds k text i after) (sym h.len_is) (subst (Holds k text n) (sym h.rows_is) held)
 
   shape : (p : Result ℕ ℕ) → p ≡ place k.order (k.key text r) (map (k.key text) (take n rows)) → Shaped pick r (take n rows) (enter_row pick k.order (k.key text) r (take n rows)) p

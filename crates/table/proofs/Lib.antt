@@ -1,5 +1,5 @@
 mod Places
-mod Rising
-mod Entered
+pub mod Rising
+pub mod Entered
 mod Removes
 mod Zeros

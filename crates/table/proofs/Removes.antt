@@ -8,20 +8,20 @@ use Rattle.table.specs.Table.{InOrder, Left}
 use Rattle.table.proofs.Entered.{rest_left, take_left}
 use Rattle.table.proofs.Rising.{ordered_kept}
 
--- after rows[k..] was filled with the default d
-filled : {X : Type 0} (rows part : List X) (k : ℕ) (z d : X) → k ≤ length rows → part ≡ replicate (length (take (length rows - k) (drop k rows))) d → d ≡ z → put_mid k (length rows - k) rows part ≡ take k rows ++ replicate (length rows - k) z
-filled rows part k z d le is zero =
+-- after each row of rows[k..] became z
+filled : {X : Type 0} (rows part : List X) (k : ℕ) (z : X) → k ≤ length rows → part ≡ replicate (length (take (length rows - k) (drop k rows))) z → put_mid k (length rows - k) rows part ≡ take k rows ++ replicate (length rows - k) z
+filled rows part k z le is =
     let l : length (take (length rows - k) (drop k rows)) ≡ length rows - k = length-take-le (length rows - k) (drop k rows) (omega (arith, length-drop k rows)) in
-    ap (λ q. take k rows ++ q) ((λ i. is i ++ drop_all (length rows - k) (drop k rows) (omega (arith, length-drop k rows)) i) ∙ append-nil _ ∙ (λ i. replicate (l i) (zero i)))
+    ap (λ q. take k rows ++ q) ((λ i. is i ++ drop_all (length rows - k) (drop k rows) (omega (arith, length-drop k rows)) i) ∙ append-nil _ ∙ (λ i. replicate (l i) z))
 
--- the first k of the rows in front are kept, and all that follows is filled with the default
-pub left_by : {X : Type 0} (rows front kept part : List X) (n k : ℕ) (z d : X) → n ≤ length rows → length front ≡ n → k ≤ length front → take k front ≡ kept → part ≡ replicate (length (take (length (front ++ drop n rows) - k) (drop k (front ++ drop n rows)))) d → d ≡ z → Left z (length rows) kept k (put_mid k (length (front ++ drop n rows) - k) (front ++ drop n rows) part)
-left_by rows front kept part n k z d fits long le first is zero =
+-- the first k of the rows in front are kept, and each that follows becomes z
+pub left_by : {X : Type 0} (rows front kept part : List X) (n k : ℕ) (z : X) → n ≤ length rows → length front ≡ n → k ≤ length front → take k front ≡ kept → part ≡ replicate (length (take (length (front ++ drop n rows) - k) (drop k (front ++ drop n rows)))) z → Left z (length rows) kept k (put_mid k (length (front ++ drop n rows) - k) (front ++ drop n rows) part)
+left_by rows front kept part n k z fits long le first is =
     let m : length (front ++ drop n rows) ≡ length rows = omega (arith, length-append front (drop n rows), length-drop n rows) in
     let l : length kept ≡ k = sym (ap length first) ∙ length-take-le k front le in
     record {
       len_is = sym l;
-      rows_is = filled (front ++ drop n rows) part k z d (omega arith) is zero ∙ (λ i. (take-append-le k front (drop n rows) le ∙ first) i ++ replicate (m i - sym l i) z);
+      rows_is = filled (front ++ drop n rows) part k z (omega arith) is ∙ (λ i. (take-append-le k front (drop n rows) le ∙ first) i ++ replicate (m i - sym l i) z);
     }
 
 -- a table of which some rows are kept holds

@@ -1,11 +1,11 @@
 -- Rows whose keys rise: by their keys, by neighbours, and after a row was entered.
-use Rattle.std.proofs.Common.{◌≡◌, ℕ, zero, suc, ◌+◌, ◌<◌, Bool, true, false, List, [], ◌∷◌, map, length, get_or, filter, Decides, Ordering, Less, Equal, Greater, sym, refl, ap, ◌∙◌, subst, inl, inr, true≢false, add-one, arith}
+use Rattle.std.proofs.Common.{◌≡◌, ℕ, suc, ◌+◌, ◌<◌, Bool, true, false, List, [], ◌∷◌, map, length, get_or, filter, Decides, Ordering, Less, Equal, Greater, sym, refl, ap, ◌∙◌, subst, true≢false, arith}
 use Rattle.std.specs.List.{All, AllPairs, IsAllAdjacentAnswer}
 use Rattle.std.specs.Ordering.{is_lt, ordering_reverse}
-use Rattle.std.proofs.lemmas.Bool.{cases_eq}
 use Rattle.std.proofs.lemmas.List.{get_or-map, length-map}
 use Rattle.std.proofs.lemmas.List.Elements.{All-cons, All-head, All-tail}
 use Rattle.std.proofs.lemmas.List.Kept.{AllPairs-cons, AllPairs-filter}
+use Rattle.std.proofs.lemmas.Map.Keys.{Less-from_sorted, sorted_from_all_adjacent}
 use Rattle.std.proofs.Math.ListN.{get_or-map as keys_at}
 use Rattle.table.specs.Order.{TotalOrder}
 use Rattle.table.specs.Table.{by_rank, Ascends, InOrder, enter_row}
@@ -28,14 +28,11 @@ module _ {X K : Type 0} (o : K → K → Ordering) (key : X → K) where
 
   module _ (t : TotalOrder o) where
     -- by neighbours
-    chained : (xs : List X) → ((k : ℕ) (d : X) → k + 1 < length xs → Below (get_or xs k d) (get_or xs (k + 1) d)) → AllPairs Below xs
-    chained xs step i zero d h l = absurd (omega arith)
-    chained xs step i (suc j) d h l =
-        let next : Below (get_or xs j d) (get_or xs (suc j) d) = subst (λ (m : ℕ). Below (get_or xs j d) (get_or xs m d)) (add-one j) (step j d (omega arith)) in
-        elim (cases_eq i j) [
-          | inl e ↦ rw e next
-          | inr n ↦ t.laws.trans (key (get_or xs i d)) (key (get_or xs j d)) (key (get_or xs (suc j) d)) (chained xs step i j d (omega arith) (omega arith)) next
-        ]
+    risen : (xs : List X) → ((k : ℕ) (d : X) → k + 1 < length xs → Below (get_or xs k d) (get_or xs (k + 1) d)) → Ascends o (map key xs)
+    risen [] step = λ i j d h l. absurd (omega arith)
+    risen (x ∷ xs) step = λ i j d h l. Less-from_sorted o (map key (x ∷ xs)) i j d (sorted_from_all_adjacent t.laws (map key (x ∷ xs)) d (λ k m.
+        let lt : k + 1 < length (x ∷ xs) = rw (sym (length-map (x ∷ xs) key)) m in
+        (λ n. o (get_or-map key (x ∷ xs) k x d (omega arith) n) (get_or-map key (x ∷ xs) (k + 1) x d lt n)) ∙ step k x lt)) h l
 
     less : (a : Ordering) → true ≡ is_lt a → a ≡ Less
     less Less e = refl
@@ -44,7 +41,7 @@ module _ {X K : Type 0} (o : K → K → Ordering) (key : X → K) where
 
     -- what `is_sorted_by` answers
     pub answered : (xs : List X) (r : Bool) → IsAllAdjacentAnswer (λ x y b. b ≡ is_lt (o (key x) (key y))) xs r → Decides r (Ascends o (map key xs))
-    answered xs true h = (λ _. keys_rise xs (chained xs (λ k d l. less (o (key (get_or xs k d)) (key (get_or xs (k + 1) d))) (h k d l))), λ _. refl)
+    answered xs true h = (λ _. risen xs (λ k d l. less (o (key (get_or xs k d)) (key (get_or xs (k + 1) d))) (h k d l)), λ _. refl)
     answered [] false h = absurd (omega (arith, h.1))
     answered (x ∷ xs) false h = (λ e. absurd (true≢false (sym e)), λ up. absurd (true≢false (sym (h.2 x ∙ ap is_lt (rows_rise (x ∷ xs) up h.0 (h.0 + 1) x (omega arith) h.1)))))
 

@@ -3,3 +3,4 @@ pub mod Table
 pub mod Kind
 pub mod Kinds
 pub mod Totals
+pub mod Alike

@@ -1,5 +1,5 @@
 //! Bindings as rows: by the bytes of their names.
-ghost use Rattle.std.proofs.Common.{rules};
+ghost use Rattle.table.specs.Alike.{same_binding, zero_binding};
 ghost use Rattle.table.specs.Kinds.{bindings};
 ghost use Rattle.table.specs.Totals.{numbers_total};
 
@@ -19,11 +19,9 @@ impl Row for Binding {
 
     ghost total = { numbers_total };
 
-    ghost zero = { Prim.search rules };
+    ghost zero = { zero_binding };
 
-    ghost same = { Prim.search rules };
-
-    ghost clones = { Prim.search rules };
+    ghost same = { same_binding };
 
     fn compare(&self, text: &[u8], other: &Self, from: &[u8]) -> Ordering {
         self.name.part(text).cmp(other.name.part(from))

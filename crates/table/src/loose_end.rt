@@ -1,5 +1,5 @@
 //! Loose ends as rows: by module, then by place.
-ghost use Rattle.std.proofs.Common.{rules};
+ghost use Rattle.table.specs.Alike.{same_loose_end, zero_loose_end};
 ghost use Rattle.table.specs.Kinds.{loose_ends};
 ghost use Rattle.table.specs.Totals.{numbers_total};
 
@@ -7,6 +7,8 @@ use crate::row::Row;
 use std::cmp::Ordering;
 
 /// A re-export of a module, by the place of its text, that leads to no module.
+// The place is written out: as a `Place`, it would need an order by its numbers beside the one by its text, which a
+// row has.
 #[derive(Clone, Copy, PartialEq, Eq, PartialOrd, Ord, Debug, Default)]
 pub struct LooseEnd {
     pub module: u32,
@@ -19,11 +21,9 @@ impl Row for LooseEnd {
 
     ghost total = { numbers_total };
 
-    ghost zero = { Prim.search rules };
+    ghost zero = { zero_loose_end };
 
-    ghost same = { Prim.search rules };
-
-    ghost clones = { Prim.search rules };
+    ghost same = { same_loose_end };
 
     fn compare(&self, _text: &[u8], other: &Self, _from: &[u8]) -> Ordering {
         self.cmp(other)

@@ -1,5 +1,5 @@
 //! Places of a text as rows: by the loose reading of their texts.
-ghost use Rattle.std.proofs.Common.{rules};
+ghost use Rattle.table.specs.Alike.{same_place, zero_place};
 ghost use Rattle.table.specs.Kinds.{places};
 ghost use Rattle.table.specs.Totals.{numbers_total};
 
@@ -12,11 +12,9 @@ impl Row for Place {
 
     ghost total = { numbers_total };
 
-    ghost zero = { Prim.search rules };
+    ghost zero = { zero_place };
 
-    ghost same = { Prim.search rules };
-
-    ghost clones = { Prim.search rules };
+    ghost same = { same_place };
 
     fn compare(&self, text: &[u8], other: &Self, from: &[u8]) -> Ordering {
         compare_loose(self.part(text), other.part(from))

@@ -15,6 +15,7 @@ pub trait Row: Copy + Default + Eq {
     fn compare(&self, text: &[u8], other: &Self, from: &[u8]) -> Ordering
         ensures { result ≡ kind.order (kind.key text.now self.now) (kind.key from.now other.now) };
 
+    /// the order of keys is total, and only equal keys tie
     ghost total: { TotalOrder kind.order };
 
     /// the default is the row that stands where none is
@@ -22,7 +23,4 @@ pub trait Row: Copy + Default + Eq {
 
     /// rows that `==` holds of are one row
     ghost same: { (x y : Self) → Self.eq x y ≡ true → x ≡ y };
-
-    /// a clone does not fail, and is the row
-    ghost clones: { (x : Self) → Self.is_infallible x × ((y : Self) → Self.is_clone x y → y ≡ x) };
 }

@@ -35,6 +35,13 @@ pub(crate) fn sift<R: Row>(rows: &mut [R], text: &[u8], other: &OrderedTable<R>)
     kept
 }
 
+/// Empties each row. The default comes from a call for each, since `fill` would ask what a clone is.
+pub(crate) fn empty<R: Row>(rows: &mut [R])
+    ensures { rows.new ≡ replicate (length rows.old) R.Row.kind.zero }
+{
+    rows.fill_with(|| R::default());
+}
+
 /// Whether the keys of rows rise strictly.
 pub fn ascending<R: Row>(rows: &[R], text: &[u8]) -> bool
     ensures { Decides result (Ascends R.Row.kind.order (map (R.Row.kind.key text.now) rows.now)) }

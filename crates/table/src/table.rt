@@ -1,21 +1,21 @@
 //! The ordered table.
-ghost use Rattle.std.specs.Prelude.{◌≡◌, ℕ, ◌≤◌, List, length, take, replicate};
+ghost use Rattle.std.specs.Prelude.{◌≡◌, ℕ, ◌≤◌, List, [], ◌∷◌};
 ghost use Rattle.std.specs.List.{insert};
 ghost use Rattle.std.specs.List.Sorted.{IsSearchInRange};
-ghost use Rattle.table.specs.Kind.{Enters, Inserts, Ordered, Puts, Removes, held, place_in};
+ghost use Rattle.table.specs.Kind.{Appended, Enters, Inserts, Leaves, Ordered, Puts, Removes, held, place_in};
 ghost use Rattle.table.specs.Order.{TotalOrder};
 ghost use Rattle.table.specs.Table.{Rest};
 
 use crate::row::Row;
-use crate::rows::{open_at, sift};
+use crate::rows::{empty, open_at, sift};
 
 /// No row is free for a new key.
 #[derive(Clone, Copy, PartialEq, Eq, Debug)]
 pub struct Full;
 
 /// Lent rows, of which the first `len` are held in order. Memory is lent, so this is no `Vec`.
-// `Ordered` is asked at each call, and is no invariant: rows may hold anything before `clear`, and an invariant would want the text
-// in every table, and at a removal still that two tables have one text.
+// `Ordered` is asked at each call, and is no invariant: rows may hold anything before `clear`. An invariant would want the
+// text in each table, where four tables share one, and a removal would still ask that two tables have one text.
 #[derive(Drop)]
 pub struct OrderedTable<'a, R> {
     pub rows: &'a mut [R],
@@ -46,8 +46,7 @@ impl<'a, R: Row> OrderedTable<'a, R> {
     /// Enters a row at a place, where there is room.
     fn enter(&mut self, i: usize, row: R) -> Result<bool, Full>
         requires { (i ≤ self.old.len) × (Rest R.Row.kind.zero self.old.len self.old.rows.now) }
-        ensures after { Enters R.Row.kind (insert (held self.old) i row) self.old result self.new }
-        ensures lender { self.new.rows.ghost_name ≡ self.old.rows.ghost_name }
+        ensures { Enters R.Row.kind (insert (held self.old) i row) self.old result self.new }
     {
         let n = self.len;
         if n == self.rows.len() {
@@ -63,7 +62,6 @@ impl<'a, R: Row> OrderedTable<'a, R> {
         requires { Ordered R.Row.kind text.now self.old }
         ensures after { Inserts R.Row.kind text.now row self.old result self.new }
         ensures held { Ordered R.Row.kind text.now self.new }
-        ensures lender { self.new.rows.ghost_name ≡ self.old.rows.ghost_name }
     {
         match self.find(text, &row, text) {
             Ok(_) => Ok(false),
@@ -76,7 +74,6 @@ impl<'a, R: Row> OrderedTable<'a, R> {
         requires { Ordered R.Row.kind text.now self.old }
         ensures after { Puts R.Row.kind text.now row self.old result self.new }
         ensures held { Ordered R.Row.kind text.now self.new }
-        ensures lender { self.new.rows.ghost_name ≡ self.old.rows.ghost_name }
     {
         // `insert` differs in this arm alone, which as a closure would want a clause longer than itself.
         match self.find(text, &row, text) {
@@ -88,14 +85,22 @@ impl<'a, R: Row> OrderedTable<'a, R> {
         }
     }
 
+    /// Appends a row to those that are held, whatever its key: rows that are only appended stand as they came, and in no
+    /// order of keys.
+    pub fn push(&mut self, row: R) -> Result<(), Full>
+        requires { Rest R.Row.kind.zero self.old.len self.old.rows.now }
+        ensures { Appended R.Row.kind (row ∷ []) self.old result self.new }
+    {
+        self.enter(self.len, row)?;
+        Ok(())
+    }
+
     /// Empties the table, whatever its rows held.
     pub fn clear(&mut self)
-        ensures len { self.new.len ≡ 0 }
-        ensures rows { self.new.rows.now ≡ replicate (length self.old.rows.now) R.Row.kind.zero }
+        ensures after { Leaves R.Row.kind [] self.old self.new }
         ensures held { (text : List ℕ) → Ordered R.Row.kind text self.new }
-        ensures lender { self.new.rows.ghost_name ≡ self.old.rows.ghost_name }
     {
-        self.rows.fill(R::default());
+        empty(self.rows);
         self.len = 0;
     }
 
@@ -105,10 +110,9 @@ impl<'a, R: Row> OrderedTable<'a, R> {
         requires others { Ordered R.Row.kind text.now other.now }
         ensures after { Removes R.Row.kind text.now other.now self.old self.new }
         ensures held { Ordered R.Row.kind text.now self.new }
-        ensures lender { self.new.rows.ghost_name ≡ self.old.rows.ghost_name }
     {
         let kept = sift(&mut self.rows[..self.len], text, other);
-        self.rows[kept..].fill(R::default());
+        empty(&mut self.rows[kept..]);
         self.len = kept;
     }
 }

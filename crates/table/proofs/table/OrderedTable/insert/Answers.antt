@@ -8,9 +8,9 @@ returns-in-Ok-clause-after g c =
     let i = c.in-Ok.field-0 in
     let stored = in_its_place (λ r x. x) c.requires g.met.R.Row.total (λ r x e. refl) c.args.row i c.in-Ok.ensures.place c.in-Ok.ensures.within in
     let h = stored.0 in
-    rw (set-get_or c.args.self.now.rows.now i c.args.row) at h
+    record { rows = rw (set-get_or c.args.self.now.rows.now i c.args.row) at h; lender = refl }
 
 pub returns-in-Err : goal.returns-in-Err
 returns-in-Err g c =
-    let grown = at_new_place (λ r x. x) c.requires g.met.R.Row.total (λ r x e. refl) c.args.row c.in-Err.i c.in-Err.ensures.place c.enter.result c.enter.new.self.len c.enter.new.self.rows.now c.enter.ensures.after in
-    record { after = grown.0; held = grown.1; lender = c.enter.ensures.lender }
+    let grown = at_new_place (λ r x. x) c.requires g.met.R.Row.total (λ r x e. refl) c.args.row c.in-Err.i c.in-Err.ensures.place c.enter.result c.enter.new.self.len c.enter.new.self.rows.now c.enter.ensures.rows in
+    record { after = record { rows = grown.0; lender = c.enter.ensures.lender }; held = grown.1 }
