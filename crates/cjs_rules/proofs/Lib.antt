@@ -1,1 +1,2 @@
+pub mod FirstTwo
 pub mod Listed

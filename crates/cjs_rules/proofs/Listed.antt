@@ -12,7 +12,7 @@ use Rattle.tree.specs.Children.{Comes, Gives, left, row_of}
 use Rattle.tree.specs.Forest.{Forest, nil, node}
 use Rattle.tree.specs.Subject.{tree_text}
 use Rattle.cjs_rules.specs.Chain.{◌>>◌, ◌or_else◌}
-use Rattle.cjs_rules.specs.Nodes.{InTree, Node, any_of_kind, final, here, seen}
+use Rattle.cjs_rules.specs.Nodes.{Finds, Node, any_of_kind, final, here}
 use Rattle.cjs_rules.specs.Rules.{get_object_define_get_prop, get_prop_name, is_get}
 
 -- each child of a tree t, with its tree
@@ -38,30 +38,20 @@ children_yield = YieldsList-from_shown Gives viewed (λ s. listed s.tree.now (le
 abbrev pub in_tree : Tree → Option Node → Option (Node × Tree)
 in_tree t o = option_map (λ n. (n, t)) o
 
-seen_from : (t : Tree) (r : Option TreeNode) (o : Option Node) → option_map viewed r ≡ in_tree t o → seen r ≡ o
-seen_from t None None e = refl
-seen_from t None (Some n) e = cc
-seen_from t (Some m) None e = cc
-seen_from t (Some m) (Some n) e = ap (option_map (λ (p : Node × Tree). p.0)) e
-
-tree_or : Tree → Option (Node × Tree) → Tree
-tree_or t None = t
-tree_or t (Some p) = p.1
-
-tree_from : (m : TreeNode) (r : Option TreeNode) (o : Option Node) → option_map viewed r ≡ in_tree m.tree.now o → InTree m r
-unfolding tree_or
-tree_from m None o e = tt
-tree_from m (Some n) None e = cc
-tree_from m (Some n) (Some k) e = ap (tree_or m.tree.now) e
+finds : (m : TreeNode) (r : Option TreeNode) (o : Option Node) → option_map viewed r ≡ in_tree m.tree.now o → Finds m o r
+finds m None None e = record { is = refl; tree = tt }
+finds m None (Some k) e = cc
+finds m (Some n) None e = cc
+finds m (Some n) (Some k) e =
+    let same : viewed n ≡ (k, m.tree.now) = cc in
+    record { is = ap (λ (p : Node × Tree). Some p.0) same; tree = ap (λ (p : Node × Tree). p.1) same }
 
 -- what was found among the children of a node
 pub found_under :
     (find : Tree → Forest → Option Node) (m : TreeNode) (it : Children) (f : Forest) (r : Option TreeNode) → it.tree.now ≡ m.tree.now → left it ≡ f →
-    option_map viewed r ≡ in_tree it.tree.now (find it.tree.now (left it)) → (seen r ≡ find m.tree.now f) × InTree m r
+    option_map viewed r ≡ in_tree it.tree.now (find it.tree.now (left it)) → Finds m (find m.tree.now f) r
 found_under find m it f r t e h =
-    let found : option_map viewed r ≡ in_tree m.tree.now (find m.tree.now f) =
-    h ∙ ap (λ u. in_tree u (find u (left it))) t ∙ ap (λ g. in_tree m.tree.now (find m.tree.now g)) e in
-    (seen_from m.tree.now r (find m.tree.now f) found, tree_from m r (find m.tree.now f) found)
+    finds m r (find m.tree.now f) (h ∙ ap (λ u. in_tree u (find u (left it))) t ∙ ap (λ g. in_tree m.tree.now (find m.tree.now g)) e)
 
 -- the last child
 last_of_map : {A B : Type 0} (v : A → B) (o : Option A) (xs : List A) → option_map v (last_or o xs) ≡ last_or (option_map v o) (map v xs)
@@ -73,12 +63,15 @@ last_listed t nil = refl
 last_listed t (node j r ks nil) = refl
 last_listed t (node j r ks (node i s ls rest)) = last_listed t (node i s ls rest)
 
-pub last_child_of : (it : Children) (r : Option TreeNode) → (xs : List TreeNode) × Drains Gives it xs × (r ≡ last_or None xs) → option_map viewed r ≡ in_tree it.tree.now (final (left it))
-last_child_of it r ran =
+pub last_child_found :
+    (m : TreeNode) (it : Children) (r : Option TreeNode) → it.tree.now ≡ m.tree.now → left it ≡ (here m).kids →
+    (xs : List TreeNode) × Drains Gives it xs × (r ≡ last_or None xs) → Finds m (final (here m).kids) r
+last_child_found m it r t e ran =
     let xs = ran.0 in
     let d = ran.1 in
     let items : map viewed xs ≡ listed it.tree.now (left it) = items_from_drains xs (d.1.0, d.1.1, λ _. (d.0, d.1.2)) (children_yield it) in
-    ap (option_map viewed) ran.2 ∙ last_of_map viewed None xs ∙ ap (last_or None) items ∙ last_listed it.tree.now (left it)
+    found_under (λ t f. final f) m it (here m).kids r t e
+    (ap (option_map viewed) ran.2 ∙ last_of_map viewed None xs ∙ ap (last_or None) items ∙ last_listed it.tree.now (left it))
 
 -- the first property whose name is `get`
 abbrev pub names_get : Node × Tree → Bool
@@ -89,12 +82,6 @@ first_get_listed t nil = refl
 first_get_listed t (node j r ks rest) =
     let p : Node = record { row = r; kids = ks } in
     elim (names_get (p, t)) as (λ b. cond b (Some (p, t)) (find names_get (listed t rest)) ≡ in_tree t ((b >> Some p) or_else get_object_define_get_prop (tree_text t) rest)) [ true ↦ refl | false ↦ first_get_listed t rest ]
-
--- the first two children
-pub two_parts :
-    (it t u : Children) (f : Forest) (a b : TreeNode) → left it ≡ f → Comes it a t → Comes t b u →
-    f ≡ node a.row (row_of a) (here a).kids (node b.row (row_of b) (here b).kids (left u))
-two_parts it t u f a b e c d = sym e ∙ c.first ∙ ap (λ rest. node a.row (row_of a) (here a).kids rest) d.first
 
 -- whether one is of a kind
 pub any_listed : (kind : ℕ) (t : Tree) (f : Forest) → list_any (λ (n : Node × Tree). n.0.row.kind == kind) (listed t f) ≡ any_of_kind kind f

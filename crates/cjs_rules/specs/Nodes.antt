@@ -1,33 +1,21 @@
--- A row with its children: the unit of every rule.
+-- A row with its children: the unit of every rule. What stands so at a node of a tree, and what a search from one finds.
 use Rattle.std.specs.Prelude.{◌≡◌, ℕ, zero, suc, Bool, true, false, ◌||◌, List, Some, None, Option, ◌==◌}
 use Rattle.text.specs.Place.{stretch}
 use Rattle.text.specs.declared.place.Place.{Place}
 use Rattle.tree.specs.declared.row.Row.{Row}
-use Rattle.tree.specs.declared.tree.Tree.{Tree}
 use Rattle.tree.specs.declared.node.Node.{Node as TreeNode}
+use Rattle.tree.specs.Children.{place_of, row_of}
+use Rattle.tree.specs.Forest.{Forest, nil, node, children}
 use Rattle.tree.specs.Subject.{tree_rows, tree_text}
-use Rattle.tree.specs.Forest.{Forest, nil, node, children, row_at}
 
 pub record Node : Type 0 where
   pub row : Row
   pub kids : Forest
 
--- the node at a row
-abbrev pub node_at : List Row → ℕ → Node
-node_at rs j = record { row = row_at rs j; kids = children rs j }
-
--- the node at a row of a tree
-abbrev pub at : Tree → ℕ → Node
-at t j = node_at (tree_rows t) j
-
--- the node at a row that was found
-abbrev pub found : Tree → Option ℕ → Option Node
-found t None = None
-found t (Some j) = Some (at t j)
-
--- what stands at a node of a tree, and the text section that its texts lie in
+-- what stands at a node of a tree, and the text section that its texts lie in. A model of the tree's Node in their place
+-- was tried: a struct that is Copy and has lifetimes may have none, and a rule names these two apart
 abbrev pub here : TreeNode → Node
-here n = at n.tree.now n.row
+here n = record { row = row_of n; kids = children (tree_rows n.tree.now) n.row }
 
 abbrev pub section : TreeNode → List ℕ
 section n = tree_text n.tree.now
@@ -41,6 +29,11 @@ seen (Some n) = Some (here n)
 abbrev pub InTree : TreeNode → Option TreeNode → Type 0
 InTree n None = Unit {0}
 InTree n (Some m) = m.tree.now ≡ n.tree.now
+
+-- what a search from a node gives: the wanted one, standing in the node's tree
+pub record Finds (n : TreeNode) (wanted : Option Node) (result : Option TreeNode) : Type 0 where
+  pub is : seen result ≡ wanted
+  pub tree : InTree n result
 
 abbrev pub is : ℕ → Node → Bool
 is kind n = n.row.kind == kind
@@ -73,9 +66,9 @@ abbrev pub past : Forest → Forest
 past nil = nil
 past (node j r ks rest) = rest
 
--- the place of a row's text
+-- the place of a node's text
 abbrev pub place : Node → Place
-place n = record { offset = n.row.offset; length = n.row.length }
+place n = place_of n.row
 
 -- the bytes at a place of the text
 abbrev pub read : List ℕ → Place → List ℕ

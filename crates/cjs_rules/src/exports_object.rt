@@ -16,37 +16,34 @@ pub fn get_member_prop_text(property: Node) -> Option<Place>
         Kind::Ident => Some(property.place()),
         Kind::Computed => {
             let key = property.children().next()?;
-            if is_plain_str(key) {
-                Some(key.place())
-            } else {
-                None
-            }
+            is_plain_str(key).then_some(key.place())
         }
         _ => None,
     }
 }
 
+/// Whether a member expression is `module.exports`.
+#[tactic(auto, using(crate::proofs::FirstTwo::at_most_one))]
 pub fn is_module_exports_member(member: Node) -> bool
     ensures { result ≡ is_module_exports_member (section member.entry) (here member.entry) }
 {
-    let mut parts = member.children();
-    let (Some(object), Some(property)) = (parts.next(), parts.next()) else {
+    let Some((object, property)) = member.first_two() else {
         return false;
     };
-    match get_member_prop_text(property) {
-        Some(name) => {
-            is_ident(object, b"module") && is_word(name.part(member.text_section()), b"exports")
-        }
-        None => false,
-    }
+    let Some(name) = get_member_prop_text(property) else {
+        return false;
+    };
+    is_ident(object, b"module") && is_word(name.part(member.text_section()), b"exports")
 }
 
+/// Whether a node is the name `exports`.
 pub fn is_exports_expr(node: Node) -> bool
     ensures { result ≡ is_exports_expr (section node.entry) (here node.entry) }
 {
     is_ident(node, b"exports")
 }
 
+/// Whether a node is the exports object, under either name.
 pub fn is_module_exports_or_exports(node: Node) -> bool
     ensures { result ≡ is_module_exports_or_exports (section node.entry) (here node.entry) }
 {

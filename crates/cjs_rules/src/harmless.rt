@@ -6,7 +6,9 @@ ghost use Rattle.cjs_rules.specs.Rules.{harmless as harmless_expr, harmless_prop
 use kinds::kind::Kind;
 use tree::Node;
 
-fn is_simple(node: Node) -> bool
+/// Whether a node is a name, a literal or an object.
+// Seen in the crate: the proofs of the modules that pass `harmless` by name speak of what it calls.
+pub(crate) fn is_simple(node: Node) -> bool
     ensures { result ≡ is_simple (here node.entry).row }
 {
     matches!(
@@ -23,13 +25,13 @@ pub fn harmless(node: Node) -> bool
     if !node.is(Kind::Member) {
         return is_simple(node);
     }
-    let mut parts = node.children();
-    let (Some(object), Some(property)) = (parts.next(), parts.next()) else {
+    let Some((object, property)) = node.first_two() else {
         return false;
     };
     harmless(object) && harmless_prop(property)
 }
 
+/// Whether the property of a member expression has no side effect: a computed one must have a harmless key.
 #[cycle(harmless_values)]
 fn harmless_prop(property: Node) -> bool
     ensures { result ≡ harmless_prop (here property.entry).kids (here property.entry).row }
@@ -37,8 +39,5 @@ fn harmless_prop(property: Node) -> bool
     if !property.is(Kind::Computed) {
         return true;
     }
-    match property.children().next() {
-        Some(key) => harmless(key),
-        None => false,
-    }
+    property.children().next().is_some_and(harmless)
 }

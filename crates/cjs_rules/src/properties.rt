@@ -1,7 +1,7 @@
 //! Properties of objects.
 ghost use Rattle.std.specs.Prelude.{◌≡◌, Some};
 ghost use Rattle.cjs_rules.specs.Names.{shown};
-ghost use Rattle.cjs_rules.specs.Nodes.{InTree, here, place, section, seen, text_of};
+ghost use Rattle.cjs_rules.specs.Nodes.{Finds, here, place, section, seen, text_of};
 ghost use Rattle.cjs_rules.specs.Rules.{get_object_define_get_prop, get_prop_name, is_get, is_harmless_getter, is_supported_object_prop, is_valid_object_define_obj_lit, prop_name_from_key, returns_harmless};
 
 use crate::harmless::harmless;
@@ -62,19 +62,11 @@ fn is_get(name: Option<PropName>) -> bool
 
 /// The first property of an object whose name is `get`.
 pub fn get_object_define_get_prop<'t, 'a>(object: Node<'t, 'a>) -> Option<Node<'t, 'a>>
-    ensures is { seen result ≡ get_object_define_get_prop (section object.entry) (here object.entry).kids }
-    ensures tree { InTree object.entry result }
+    ensures { Finds object.entry (get_object_define_get_prop (section object.entry) (here object.entry).kids) result }
 {
     object
         .children()
         .find(|property| is_get(get_prop_name(*property)))
-}
-
-/// Whether an expression is there and harmless.
-fn is_harmless_if_any(expr: Option<Node>) -> bool
-    ensures { result ≡ returns_harmless (seen expr.entry) }
-{
-    expr.is_some_and(harmless)
 }
 
 /// Whether a node is an object whose `get`, if it has one, returns a harmless expression.
@@ -84,21 +76,19 @@ pub fn is_valid_object_define_obj_lit(node: Node) -> bool
     if !node.is(Kind::Object) {
         return false;
     }
-    match get_object_define_get_prop(node) {
-        Some(getter) => is_harmless_if_any(get_prop_return_expr(getter)),
-        None => true,
-    }
+    let getter = get_object_define_get_prop(node);
+    getter.is_none_or(|getter| get_prop_return_expr(getter).is_some_and(harmless))
 }
 
 /// Whether a getter returns a harmless expression.
+#[tactic(auto, using(crate::proofs::FirstTwo::at_most_one))]
 fn is_harmless_getter(getter: Node) -> bool
     ensures { result ≡ is_harmless_getter (here getter.entry) }
 {
-    let mut parts = getter.children();
-    let (Some(_key), Some(body)) = (parts.next(), parts.next()) else {
+    let Some((_key, body)) = getter.first_two() else {
         return false;
     };
-    is_harmless_if_any(get_block_stmt_return_expr(body))
+    get_block_stmt_return_expr(body).is_some_and(harmless)
 }
 
 /// Whether a property of an object that is assigned to the exports object is safe to read.

@@ -9,21 +9,16 @@ use text::Place;
 use tree::Node;
 
 /// The place of the text that a node requires.
+#[tactic(auto, using(crate::proofs::FirstTwo::at_most_one))]
 pub fn require_value(node: Node) -> Option<Place>
     ensures { result ≡ require_value (section node.entry) (here node.entry).row (here node.entry).kids }
 {
-    let mut parts = node.children();
-    let callee = parts.next()?;
-    let arg = parts.next()?;
     if !node.is(Kind::Call) {
         return None;
     }
+    let (callee, arg) = node.first_two()?;
     if is_ident(callee, b"require") {
-        if is_plain_str(arg) {
-            Some(arg.place())
-        } else {
-            None
-        }
+        is_plain_str(arg).then_some(arg.place())
     } else if is_ident(callee, b"_interopRequireWildcard") {
         require_value(arg)
     } else {

@@ -1,6 +1,6 @@
 //! Returned expressions.
 ghost use Rattle.std.specs.Prelude.{◌≡◌};
-ghost use Rattle.cjs_rules.specs.Nodes.{InTree, final, here, seen};
+ghost use Rattle.cjs_rules.specs.Nodes.{Finds, final, here};
 ghost use Rattle.cjs_rules.specs.Rules.{get_arrow_return_expr, get_block_stmt_return_expr, get_function_return_expr, get_prop_return_expr, get_value_return_expr};
 
 use kinds::kind::Kind;
@@ -8,16 +8,14 @@ use tree::Node;
 
 /// The last child of a node.
 pub fn last_child<'t, 'a>(node: Node<'t, 'a>) -> Option<Node<'t, 'a>>
-    ensures is { seen result ≡ final (here node.entry).kids }
-    ensures tree { InTree node.entry result }
+    ensures { Finds node.entry (final (here node.entry).kids) result }
 {
     node.children().last()
 }
 
 /// The expression that a block's only statement returns.
 pub fn get_block_stmt_return_expr<'t, 'a>(block: Node<'t, 'a>) -> Option<Node<'t, 'a>>
-    ensures is { seen result ≡ get_block_stmt_return_expr (here block.entry) }
-    ensures tree { InTree block.entry result }
+    ensures { Finds block.entry (get_block_stmt_return_expr (here block.entry)) result }
 {
     if !block.is(Kind::Block) {
         return None;
@@ -32,8 +30,7 @@ pub fn get_block_stmt_return_expr<'t, 'a>(block: Node<'t, 'a>) -> Option<Node<'t
 
 /// What a function's block returns.
 fn get_function_return_expr<'t, 'a>(function: Node<'t, 'a>) -> Option<Node<'t, 'a>>
-    ensures is { seen result ≡ get_function_return_expr (here function.entry) }
-    ensures tree { InTree function.entry result }
+    ensures { Finds function.entry (get_function_return_expr (here function.entry)) result }
 {
     let body = last_child(function)?;
     get_block_stmt_return_expr(body)
@@ -41,8 +38,7 @@ fn get_function_return_expr<'t, 'a>(function: Node<'t, 'a>) -> Option<Node<'t, '
 
 /// What an arrow function returns: its body, or what its block returns.
 fn get_arrow_return_expr<'t, 'a>(arrow: Node<'t, 'a>) -> Option<Node<'t, 'a>>
-    ensures is { seen result ≡ get_arrow_return_expr (here arrow.entry) }
-    ensures tree { InTree arrow.entry result }
+    ensures { Finds arrow.entry (get_arrow_return_expr (here arrow.entry)) result }
 {
     let body = last_child(arrow)?;
     if body.is(Kind::Block) {
@@ -54,8 +50,7 @@ fn get_arrow_return_expr<'t, 'a>(arrow: Node<'t, 'a>) -> Option<Node<'t, 'a>>
 
 /// What a function that stands as a value returns.
 fn get_value_return_expr<'t, 'a>(value: Node<'t, 'a>) -> Option<Node<'t, 'a>>
-    ensures is { seen result ≡ get_value_return_expr (here value.entry) }
-    ensures tree { InTree value.entry result }
+    ensures { Finds value.entry (get_value_return_expr (here value.entry)) result }
 {
     match value.kind() {
         Kind::FnExpr => {
@@ -68,13 +63,11 @@ fn get_value_return_expr<'t, 'a>(value: Node<'t, 'a>) -> Option<Node<'t, 'a>>
 }
 
 /// What the function in a property returns.
+#[tactic(auto, using(crate::proofs::FirstTwo::at_most_one))]
 pub fn get_prop_return_expr<'t, 'a>(property: Node<'t, 'a>) -> Option<Node<'t, 'a>>
-    ensures is { seen result ≡ get_prop_return_expr (here property.entry) }
-    ensures tree { InTree property.entry result }
+    ensures { Finds property.entry (get_prop_return_expr (here property.entry)) result }
 {
-    let mut parts = property.children();
-    let _key = parts.next()?;
-    let value = parts.next()?;
+    let (_key, value) = property.first_two()?;
     match property.kind() {
         Kind::Method => get_function_return_expr(value),
         Kind::KeyValue => get_value_return_expr(value),

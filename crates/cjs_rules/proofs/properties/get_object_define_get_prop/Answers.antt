@@ -13,6 +13,5 @@ returns c =
     let it = c.children.result in
     let first : option_map viewed c.find.result ≡ find names_get (listed it.tree.now (left it)) =
     find_from_yields_List names_get _ _ c.find.result c.find.ensures.ran (children_yield it) (λ x b q k. search (rules, tests)) in
-    let found = found_under (λ t f. get_object_define_get_prop (tree_text t) f) c.args.object it _ c.find.result c.children.ensures.tree c.children.ensures.left
-    (first ∙ first_get_listed it.tree.now (left it)) in
-    record { is = found.0; tree = found.1 }
+    found_under (λ t f. get_object_define_get_prop (tree_text t) f) c.args.object it _ c.find.result c.children.ensures.tree c.children.ensures.left
+    (first ∙ first_get_listed it.tree.now (left it))
