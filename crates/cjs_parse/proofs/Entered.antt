@@ -1,16 +1,17 @@
 -- The tables after some acts take in the events at a row as the outcome has it.
 use Rattle.std.proofs.Common.{◌≡◌, ℕ, Bool, true, false, cond, List, [], ◌∷◌, ◌++◌, Some, None, Err, Option, sym, refl, ap, ◌∙◌, subst}
+use Rattle.std.proofs.lemmas.List.{append-nil, append_assoc}
 use Rattle.table.specs.declared.binding.Binding.{Binding}
 use Rattle.text.specs.declared.place.Place.{Place}
 use Rattle.findings.specs.Tables.{Found, Room}
 use Rattle.cjs_law.specs.declared.event.Event.{Event}
 use Rattle.cjs_law.specs.declared.event.Event.TheVariants.{Bind, Export, Reexport, Replace, Unsafe}
-use Rattle.cjs_law.specs.Findings.{bindings, bindings_after, bound_by, by_name, exported, exported_by, fits, held, loosely, marked_unsafe, outcome_after, reexported, reexported_after, reexported_by, unsafe_by}
+use Rattle.cjs_law.specs.Findings.{bindings, bound_by, by_name, exported, exported_by, fits, held, loosely, marked_unsafe, outcome_after, reexported, reexported_by, unsafe_by}
 use Rattle.cjs_law.specs.Lists.{insert_all}
 use Rattle.cjs_law.specs.Walk.{Act, acts_at}
+use Rattle.cjs_law.proofs.Acts.{after_last, gathered_last}
 use Rattle.cjs_law.proofs.Listed.{all_more, empty_lists, lists_one}
 use Rattle.cjs_law.proofs.Puts.{insert_last, put_more}
-use Rattle.cjs_law.proofs.Splits.{append_nil, join}
 use Rattle.cjs_parse.specs.State.{apply, goes}
 
 exported_front : (e : Event) (ps qs : List Place) → exported_by e (ps ++ qs) ≡ exported_by e ps ++ qs
@@ -20,10 +21,6 @@ exported_front (Unsafe p) ps qs = refl
 exported_front (Reexport p) ps qs = refl
 exported_front (Replace p) ps qs = refl
 
-exported_last : (ds : List Act) (d : Act) → exported (ds ++ d ∷ []) ≡ exported ds ++ exported_by d.event []
-exported_last [] d = refl
-exported_last (x ∷ ds) d = ap (exported_by x.event) (exported_last ds d) ∙ exported_front x.event (exported ds) (exported_by d.event [])
-
 unsafe_front : (e : Event) (ps qs : List Place) → unsafe_by e (ps ++ qs) ≡ unsafe_by e ps ++ qs
 unsafe_front (Bind k v) ps qs = refl
 unsafe_front (Export p) ps qs = refl
@@ -31,36 +28,24 @@ unsafe_front (Unsafe p) ps qs = refl
 unsafe_front (Reexport p) ps qs = refl
 unsafe_front (Replace p) ps qs = refl
 
-unsafe_last : (ds : List Act) (d : Act) → marked_unsafe (ds ++ d ∷ []) ≡ marked_unsafe ds ++ unsafe_by d.event []
-unsafe_last [] d = refl
-unsafe_last (x ∷ ds) d = ap (unsafe_by x.event) (unsafe_last ds d) ∙ unsafe_front x.event (marked_unsafe ds) (unsafe_by d.event [])
-
-reexported_last : (ps : List Place) (ds : List Act) (d : Act) → reexported_after ps (ds ++ d ∷ []) ≡ reexported_by d.event (reexported_after ps ds)
-reexported_last ps [] d = refl
-reexported_last ps (x ∷ ds) d = reexported_last (reexported_by x.event ps) ds d
-
-bindings_last : (bs : List Binding) (ds : List Act) (d : Act) → bindings_after bs (ds ++ d ∷ []) ≡ bound_by d.event (bindings_after bs ds)
-bindings_last bs [] d = refl
-bindings_last bs (x ∷ ds) d = bindings_last (bound_by x.event bs) ds d
-
 module _ (T : List ℕ) (ds : List Act) (j : ℕ) where
   abbrev act : Event → Act
   act e = record { row = j; event = e }
 
   exports_with : (e : Event) → insert_all (loosely T) (exported (ds ++ act e ∷ [])) [] ≡ insert_all (loosely T) (exported ds ++ exported_by e []) []
-  exports_with e = ap (λ l. insert_all (loosely T) l []) (exported_last ds (act e))
+  exports_with e = ap (λ l. insert_all (loosely T) l []) (gathered_last exported_by exported_front ds (act e))
 
   unsafes_with : (e : Event) → insert_all (loosely T) (marked_unsafe (ds ++ act e ∷ [])) [] ≡ insert_all (loosely T) (marked_unsafe ds ++ unsafe_by e []) []
-  unsafes_with e = ap (λ l. insert_all (loosely T) l []) (unsafe_last ds (act e))
+  unsafes_with e = ap (λ l. insert_all (loosely T) l []) (gathered_last unsafe_by unsafe_front ds (act e))
 
   reexports_with : (e : Event) → insert_all (loosely T) (reexported (ds ++ act e ∷ [])) [] ≡ insert_all (loosely T) (reexported_by e (reexported ds)) []
-  reexports_with e = ap (λ l. insert_all (loosely T) l []) (reexported_last [] ds (act e))
+  reexports_with e = ap (λ l. insert_all (loosely T) l []) (after_last reexported_by [] ds (act e))
 
   bindings_with : (e : Event) → insert_all (by_name T) (bindings (ds ++ act e ∷ [])) [] ≡ insert_all (by_name T) (bound_by e (bindings ds)) []
-  bindings_with e = ap (λ l. insert_all (by_name T) l []) (bindings_last [] ds (act e))
+  bindings_with e = ap (λ l. insert_all (by_name T) l []) (after_last bound_by [] ds (act e))
 
   unchanged : (ps : List Place) → insert_all (loosely T) (ps ++ []) [] ≡ insert_all (loosely T) ps []
-  unchanged ps = ap (λ l. insert_all (loosely T) l []) (append_nil ps)
+  unchanged ps = ap (λ l. insert_all (loosely T) l []) (append-nil ps)
 
   pub apply_held : (e : Event) → held T (ds ++ act e ∷ []) ≡ apply T e (held T ds)
   apply_held (Bind k v) =
@@ -85,7 +70,7 @@ module _ (T : List ℕ) (room : Room) (j : ℕ) where
 
   lift : (ds : List Act) (e : Event) (es : List Event) (more : List Act) (o : Option Found) → fits room (held T (ds ++ act T ds j e ∷ [])) ≡ true → Told T room (ds ++ act T ds j e ∷ []) j es more o → Told T room ds j (e ∷ es) more o
   lift ds e es more None h g = step ds e (acts_at j es ++ more) h ∙ g
-  lift ds e es more (Some f) h g = (g.0 ∙ ap (held T) (join ds (act T ds j e) (acts_at j es)), step ds e (acts_at j es ++ more) h ∙ g.1 ∙ ap (λ l. outcome_after T room l more) (join ds (act T ds j e) (acts_at j es)))
+  lift ds e es more (Some f) h g = (g.0 ∙ ap (held T) (append_assoc ds (act T ds j e ∷ []) (acts_at j es)), step ds e (acts_at j es ++ more) h ∙ g.1 ∙ ap (λ l. outcome_after T room l more) (append_assoc ds (act T ds j e ∷ []) (acts_at j es)))
 
   told_by : (ds : List Act) (e : Event) (es : List Event) (more : List Act) (t : Bool) → fits room (held T (ds ++ act T ds j e ∷ [])) ≡ t
       → Told T room (ds ++ act T ds j e ∷ []) j es more (goes T room es (held T (ds ++ act T ds j e ∷ [])))
@@ -95,5 +80,5 @@ module _ (T : List ℕ) (room : Room) (j : ℕ) where
 
   pub told : (ds : List Act) (es : List Event) (more : List Act) → Told T room ds j es more (goes T room es (held T ds))
   unfolding goes
-  told ds [] more = (ap (held T) (sym (append_nil ds)), ap (λ l. outcome_after T room l more) (sym (append_nil ds)))
+  told ds [] more = (ap (held T) (sym (append-nil ds)), ap (λ l. outcome_after T room l more) (sym (append-nil ds)))
   told ds (e ∷ es) more = subst (λ f. Told T room ds j (e ∷ es) more (cond (fits room f) (goes T room es f) None)) (apply_held T ds j e) (told_by ds e es more (fits room (held T (ds ++ act T ds j e ∷ []))) refl (told (ds ++ act T ds j e ∷ []) es more))

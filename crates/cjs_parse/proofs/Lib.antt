@@ -6,5 +6,6 @@ mod Right
 mod Entered
 mod Named
 mod Walking
-mod Cleared
 mod RequireArg
+mod Firsts
+mod Laws

@@ -1,25 +1,24 @@
 -- A name that is sought in the bindings.
-use Rattle.std.proofs.Common.{◌≡◌, ℕ, suc, ◌<◌, Bool, true, false, cond, List, [], ◌∷◌, map, length, get_or, Some, None, Ok, Err, Result, Ordering, Less, Equal, Greater, sym, refl, ap, ◌∙◌, subst, inl, inr, arith}
-use Rattle.std.proofs.lemmas.Slice.Eq.{bytes_eq-Decides}
+use Rattle.std.proofs.Common.{◌≡◌, ℕ, zero, suc, ◌+◌, ◌<◌, Bool, true, false, cond, List, [], ◌∷◌, map, length, get_or, Some, None, Option, Ok, Err, Result, Less, sym, refl, ap, ◌∙◌, inl, inr, ⊎_elim, arith}
+use Rattle.std.specs.Cmp.Lexicographic.{nat_list_cmp_total}
+use Rattle.std.specs.List.{AllPairs}
+use Rattle.std.specs.List.Sorted.{IsBinarySearchResult, IsSearchInRange}
+use Rattle.std.specs.Ordering.{is_lt, ordering_reverse}
+use Rattle.std.specs.Result.{result_ok}
 use Rattle.std.specs.Str.{bytes_eq}
-use Rattle.table.specs.Table.{Ascends as Rises, by_rank, later, place}
+use Rattle.std.proofs.lemmas.Bool.{cases_lt}
+use Rattle.std.proofs.lemmas.List.Sorted.{searchable_from_sorted}
+use Rattle.std.proofs.lemmas.Slice.Eq.{bytes_eq-Decides}
+use Rattle.table.specs.Table.{Ascends}
 use Rattle.table.specs.declared.binding.Binding.{Binding}
+use Rattle.table.proofs.Rising.{rows_rise}
 use Rattle.text.specs.Reading.{order}
 use Rattle.text.proofs.Orders.{order_same}
 use Rattle.cjs_law.specs.Findings.{by_name}
-use Rattle.cjs_law.specs.Lists.{Above, Ascends, In}
-use Rattle.cjs_law.proofs.Listed.{above_in, above_less, not_own}
-use Rattle.cjs_law.proofs.Order.{order_flip, order_own}
+use Rattle.cjs_law.specs.Lists.{In}
+use Rattle.cjs_law.proofs.Order.{greater_apart, less_apart}
+use Rattle.cjs_rules.specs.Chain.{◌>>=◌}
 use Rattle.cjs_parse.specs.State.{look}
-
-module _ {X : Type 0} (key : X → List ℕ) where
-  above_from : (k : List ℕ) (xs : List X) → ((j : ℕ) (d : List ℕ) → j < length (map key xs) → order k (get_or (map key xs) j d) ≡ Less) → Above key k xs
-  above_from k [] h = tt
-  above_from k (x ∷ xs) h = (h 0 [] (omega arith), above_from k xs (λ j d l. h (suc j) d (omega arith)))
-
-  ascends_from : (xs : List X) → Rises order (map key xs) → Ascends key xs
-  ascends_from [] h = tt
-  ascends_from (x ∷ xs) h = (above_from (key x) xs (λ j d l. h 0 (suc j) d (omega arith) (omega arith)), ascends_from xs (λ i j d a l. h (suc i) (suc j) d (omega arith) (omega arith)))
 
 module _ (T : List ℕ) (key : List ℕ) where
   pub not_same : (a : List ℕ) → (a ≡ key → ⊥) → bytes_eq a key ≡ false
@@ -36,24 +35,33 @@ module _ (T : List ℕ) (key : List ℕ) where
   none_looked [] n = refl
   none_looked (y ∷ ys) n = ap (λ t. cond t (Some y.value) (look T ys key)) (not_same (by_name T y) (λ q. n y (inl refl) q)) ∙ none_looked ys (λ b i e. n b (inr i) e)
 
--- what the place of a name tells of its binding
-abbrev pub Spot : List ℕ → List ℕ → List Binding → Result ℕ ℕ → Type 0
-Spot T key xs (Ok i) = (i < length xs) × ((d : Binding) → look T xs key ≡ Some (get_or xs i d).value)
-Spot T key xs (Err i) = look T xs key ≡ None
-
+-- a name among bindings in the order of their names
 module _ (T : List ℕ) (key : List ℕ) where
-  further : (x : Binding) (xs : List Binding) (p : Result ℕ ℕ) → (by_name T x ≡ key → ⊥) → Spot T key xs p → Spot T key (x ∷ xs) (later p)
-  further x xs (Ok i) n s = let l = s.0 in (omega arith, λ d. ap (λ t. cond t (Some x.value) (look T xs key)) (not_same T key (by_name T x) n) ∙ s.1 d)
-  further x xs (Err i) n s = ap (λ t. cond t (Some x.value) (look T xs key)) (not_same T key (by_name T x) n) ∙ s
+  abbrev Below : Binding → Binding → Type 0
+  Below x y = order (by_name T x) (by_name T y) ≡ Less
 
-  spot_by : (x : Binding) (xs : List Binding) (o : Ordering) (p : Result ℕ ℕ) → order key (by_name T x) ≡ o → Ascends (by_name T) (x ∷ xs) → Spot T key xs p → Spot T key (x ∷ xs) (by_rank o (Err 0) (Ok 0) (later p))
-  spot_by x xs Less p e a s = none_looked T key (x ∷ xs) (λ b i q. not_own (by_name T) key b q (above_in (by_name T) key b (x ∷ xs) (e, above_less (by_name T) key (by_name T x) xs e a.0) i))
-  spot_by x xs Equal p e a s = (omega arith, λ d. ap (λ t. cond t (Some x.value) (look T xs key)) (is_same T key (by_name T x) (sym (order_same key (by_name T x) e))))
-  spot_by x xs Greater p e a s = further x xs p (λ q. order_own key (order_flip key key (ap (λ m. order key m) (sym q) ∙ e))) s
+  looked_at : (xs : List Binding) (i : ℕ) (d : Binding) → AllPairs Below xs → i < length xs → by_name T (get_or xs i d) ≡ key → look T xs key ≡ Some (get_or xs i d).value
+  looked_at [] i d up l e = absurd (omega arith)
+  looked_at (x ∷ xs) zero d up l e = ap (λ t. cond t (Some x.value) (look T xs key)) (is_same T key (by_name T x) e)
+  looked_at (x ∷ xs) (suc i) d up l e =
+      let less : order (by_name T x) key ≡ Less = ap (order (by_name T x)) (sym e) ∙ up 0 (suc i) d (omega arith) l in
+      ap (λ t. cond t (Some x.value) (look T xs key)) (not_same T key (by_name T x) (less_apart (by_name T x) key less))
+      ∙ looked_at xs i d (λ j k d h m. up (suc j) (suc k) d (omega arith) (omega arith)) (omega arith) e
 
-  spot : (xs : List Binding) → Ascends (by_name T) xs → Spot T key xs (place order key (map (by_name T) xs))
-  spot [] a = refl
-  spot (x ∷ xs) a = spot_by x xs (order key (by_name T x)) (place order key (map (by_name T) xs)) refl a (spot xs a.1)
+  nowhere : (xs : List Binding) → ((i : ℕ) (d : Binding) → i < length xs → by_name T (get_or xs i d) ≡ key → ⊥) → look T xs key ≡ None
+  nowhere [] n = refl
+  nowhere (x ∷ xs) n = ap (λ t. cond t (Some x.value) (look T xs key)) (not_same T key (by_name T x) (n 0 x (omega arith))) ∙ nowhere xs (λ i d l. n (suc i) d (omega arith))
 
-  pub spot_at : (xs : List Binding) (p : Result ℕ ℕ) → Rises order (map (by_name T) xs) → p ≡ place order key (map (by_name T) xs) → Spot T key xs p
-  spot_at xs p up e = subst (Spot T key xs) (sym e) (spot xs (ascends_from (by_name T) xs up))
+  module _ (xs : List Binding) (up : AllPairs Below xs) where
+    value_at : (d : Binding) (r : Result ℕ ℕ) → IsSearchInRange r (length xs) → IsBinarySearchResult (λ b. order (by_name T b) key) xs r → (result_ok r >>= (λ i. Some (get_or xs i d).value)) ≡ look T xs key
+    value_at d (Ok i) within at = sym (looked_at xs i d up within (order_same (by_name T (get_or xs i d)) key (at d)))
+    value_at d (Err i) within split =
+        let parts = split (searchable_from_sorted nat_list_cmp_total (by_name T) xs key (λ i d _ h. ap is_lt (nat_list_cmp_total.antisymm (by_name T (get_or xs (i + 1) d)) (by_name T (get_or xs i d)) ∙ ap ordering_reverse (up i (i + 1) d (omega arith) h)))) in
+        sym (nowhere xs (λ j d l. ⊎_elim (λ b. less_apart (by_name T (get_or xs j d)) key (parts.0 j d (omega arith) b)) (λ b. greater_apart (by_name T (get_or xs j d)) key (parts.1 j d b l)) (cases_lt j i)))
+
+-- what a binary search for a name comes to among rows that are in order
+pub found_value :
+    (T key : List ℕ) (xs : List Binding) (d : Binding) (r : Result ℕ ℕ) → Ascends order (map (by_name T) xs) → IsSearchInRange r (length xs) → IsBinarySearchResult (λ b. order (by_name T b) key) xs r →
+    (o : Option ℕ) → o ≡ result_ok r → (o >>= (λ i. Some (get_or xs i d).value)) ≡ look T xs key
+found_value T key xs d r up within at o e =
+    ap (λ o. o >>= (λ i. Some (get_or xs i d).value)) e ∙ value_at T key xs (rows_rise order (by_name T) xs up) d r within at

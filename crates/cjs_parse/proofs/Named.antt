@@ -8,7 +8,7 @@ use Rattle.cjs_law.specs.declared.event.Event.TheVariants.{Bind, Export, Reexpor
 use Rattle.cjs_law.specs.Findings.{bindings, bindings_after, bound_by, by_name, held}
 use Rattle.cjs_law.specs.Lists.{First, In, Lists}
 use Rattle.cjs_law.specs.Walk.{Act, bound, bound_after, rebound}
-use Rattle.cjs_law.proofs.Listed.{ascends_first, first_in}
+use Rattle.cjs_law.proofs.Listed.{first_in_order, first_in}
 use Rattle.cjs_law.proofs.Stands.{held_holds}
 use Rattle.cjs_parse.specs.State.{look}
 use Rattle.cjs_parse.proofs.Look.{is_same, none_looked, not_same}
@@ -48,7 +48,7 @@ module _ (T : List ℕ) (key : List ℕ) where
 
   both_looked : (added xs : List Binding) → Lists (by_name T) added [] xs → look T xs key ≡ look T added key
   both_looked added xs l = ⊎_elim
-      (λ f. first_looked f.0 xs (ascends_first (by_name T) f.0 xs l.ascends ((l.exact f.0).1 (f.1, λ b. b))) f.2 ∙ sym (first_looked f.0 added f.1 f.2))
+      (λ f. first_looked f.0 xs (first_in_order (by_name T) f.0 xs l.ascends ((l.exact f.0).1 (f.1, λ b. b))) f.2 ∙ sym (first_looked f.0 added f.1 f.2))
       (λ n. none_looked T key xs (λ b i q. n b (first_in (by_name T) b added ((l.exact b).0 i).0) q) ∙ sym (none_looked T key added n))
       (seek added)
 

@@ -1,20 +1,23 @@
 -- A loop over siblings that enters an event for each.
-use Rattle.std.proofs.Common.{◌≡◌, ℕ, Bool, true, false, cond, List, [], ◌∷◌, ◌++◌, Some, None, Option, Result, sym, refl, ap, ◌∙◌, subst}
+use Rattle.std.proofs.Common.{◌≡◌, ℕ, Bool, true, false, cond, List, [], ◌∷◌, ◌++◌, is_err, Some, None, Ok, Option, Result, sym, refl, ap, ◌∙◌, subst}
 use Rattle.table.specs.declared.table.Full.{Full}
 use Rattle.tree.specs.declared.node.Children.{Children}
 use Rattle.tree.specs.declared.node.Node.{Node as TreeNode}
+use Rattle.tree.specs.declared.tree.Tree.{Tree}
 use Rattle.tree.specs.Children.{Comes, left}
-use Rattle.tree.specs.Forest.{Forest, nil}
-use Rattle.findings.specs.Tables.{Found, Room, SameLenders, room_of}
+use Rattle.tree.specs.Forest.{Forest, children, nil}
+use Rattle.tree.specs.Subject.{tree_rows, tree_text}
+use Rattle.findings.specs.Tables.{Found, Room, room_of}
 use Rattle.findings.specs.declared.tables.FindingsTables.{FindingsTables}
 use Rattle.cjs_law.specs.declared.event.Event.{Event}
 use Rattle.cjs_law.specs.Events.{each, once}
 use Rattle.cjs_law.specs.Findings.{fits}
-use Rattle.cjs_rules.specs.Nodes.{Node, here}
+use Rattle.cjs_rules.specs.Nodes.{Node, here, section}
 use Rattle.cjs_parse.specs.Moving.{MovesOn}
-use Rattle.cjs_parse.specs.State.{Moved, Sound, Stuck, apply, goes, state}
+use Rattle.cjs_parse.specs.State.{Kept, Moved, Sound, Stuck, apply, goes, state}
 use Rattle.cjs_parse.specs.declared.walk.Walk.{Walk}
-use Rattle.cjs_parse.proofs.Steps.{lenders_on, own_lenders}
+use Rattle.cjs_parse.proofs.Moving.{Halted, Took}
+use Rattle.cjs_parse.proofs.Steps.{kept_on, stuck_by}
 
 module _ (T : List ℕ) (k : Room) where
   abbrev then : Option Found → List Event → Option Found
@@ -44,12 +47,8 @@ stuck_append T v w es fs s = goes_append T (room_of v) es fs (state v) ∙ ap (�
 pub record Onward (one : Node → Option Event) (v w : Walk) (all rest : Forest) : Type 0 where
   pub text : w.text.now ≡ v.text.now
   pub name : w.tables.ghost_name ≡ v.tables.ghost_name
-  pub room : room_of w.tables.now ≡ room_of v.tables.now
-  pub lenders : SameLenders v.tables.now w.tables.now
+  pub kept : Kept v.tables.now w.tables.now
   pub onward : goes v.text.now (room_of v.tables.now) (each one all) (state v.tables.now) ≡ goes v.text.now (room_of v.tables.now) (each one rest) (state w.tables.now)
-
-pub onward_first : (one : Node → Option Event) (v : Walk) (all : Forest) → Onward one v v all all
-onward_first one v all = record { text = refl; name = refl; room = refl; lenders = own_lenders v.tables.now; onward = refl }
 
 module _ (one : Node → Option Event) (v w u : Walk) (all : Forest) (s t : Children) (n : TreeNode) (e : Option Event) (o : Onward one v w all (left s)) (c : Comes s n t) (is : e ≡ one (here n)) where
   abbrev T : List ℕ
@@ -64,41 +63,66 @@ module _ (one : Node → Option Event) (v w u : Walk) (all : Forest) (s t : Chil
       ∙ ap (λ f. goes T (room_of v.tables.now) (each one f) (state w.tables.now)) c.first
       ∙ ap (λ x. goes T (room_of v.tables.now) (once x ++ more) (state w.tables.now)) (sym is)
 
-  pub onward_step : (u.text.now ≡ w.text.now) × (u.tables.ghost_name ≡ w.tables.ghost_name) × Moved w.text.now w.tables.now (once e) u.tables.now → Onward one v u all (left t)
+  onward_step : Took w (once e) u → Onward one v u all (left t)
   onward_step m =
       let moved : Moved T w.tables.now (once e) u.tables.now = subst (λ S. Moved S w.tables.now (once e) u.tables.now) o.text m.2 in
       record {
         text = m.0 ∙ o.text;
         name = m.1 ∙ o.name;
-        room = moved.room ∙ o.room;
-        lenders = lenders_on v.tables.now w.tables.now u.tables.now o.lenders moved.lenders;
-        onward = next_is ∙ subst (λ k. goes T k (once e ++ more) (state w.tables.now) ≡ goes T k more (state u.tables.now)) o.room (moved_append T w.tables.now u.tables.now (once e) more moved);
+        kept = kept_on v.tables.now w.tables.now u.tables.now o.kept moved.kept;
+        onward = next_is ∙ subst (λ k. goes T k (once e ++ more) (state w.tables.now) ≡ goes T k more (state u.tables.now)) o.kept.room (moved_append T w.tables.now u.tables.now (once e) more moved);
       }
 
-  pub onward_stuck : (u.text.now ≡ w.text.now) × (u.tables.ghost_name ≡ w.tables.ghost_name) × Stuck w.text.now w.tables.now (once e) u.tables.now → (u.text.now ≡ v.text.now) × (u.tables.ghost_name ≡ v.tables.ghost_name) × Stuck v.text.now v.tables.now (each one all) u.tables.now
+  onward_stuck : Halted w (once e) u → Halted v (each one all) u
   onward_stuck m =
       let stuck : Stuck T w.tables.now (once e) u.tables.now = subst (λ S. Stuck S w.tables.now (once e) u.tables.now) o.text m.2 in (
         m.0 ∙ o.text,
         m.1 ∙ o.name,
         record {
-          full = next_is ∙ subst (λ k. goes T k (once e ++ more) (state w.tables.now) ≡ None) o.room (stuck_append T w.tables.now u.tables.now (once e) more stuck);
-          room = stuck.room ∙ o.room;
-          lenders = lenders_on v.tables.now w.tables.now u.tables.now o.lenders stuck.lenders;
+          full = next_is ∙ subst (λ k. goes T k (once e ++ more) (state w.tables.now) ≡ None) o.kept.room (stuck_append T w.tables.now u.tables.now (once e) more stuck);
+          kept = kept_on v.tables.now w.tables.now u.tables.now o.kept stuck.kept;
         },
       )
 
-pub onward_done : (one : Node → Option Event) (v w : Walk) (all rest : Forest) → Onward one v w all rest → rest ≡ nil → (w.text.now ≡ v.text.now) × (w.tables.ghost_name ≡ v.tables.ghost_name) × Moved v.text.now v.tables.now (each one all) w.tables.now
+onward_done : (one : Node → Option Event) (v w : Walk) (all rest : Forest) → Onward one v w all rest → rest ≡ nil → Took v (each one all) w
 onward_done one v w all rest o e = (
   o.text,
   o.name,
   record {
     to = o.onward ∙ ap (λ f. goes v.text.now (room_of v.tables.now) (each one f) (state w.tables.now)) e ∙ goes_none v.text.now (room_of v.tables.now) (state w.tables.now);
-    room = o.room;
-    lenders = o.lenders;
+    kept = o.kept;
     sound = subst (λ S. Sound S w.tables.now) o.text w.sound;
   },
 )
 
 -- the same for other words of the question and the nodes
-pub asked_as : (one two : Node → Option Event) (f g : Forest) (v w : Walk) (r : Result (Unit {0}) Full) → one ≡ two → f ≡ g → MovesOn v (each one f) r w → MovesOn v (each two g) r w
+asked_as : (one two : Node → Option Event) (f g : Forest) (v w : Walk) (r : Result (Unit {0}) Full) → one ≡ two → f ≡ g → MovesOn v (each one f) r w → MovesOn v (each two g) r w
 asked_as one two f g v w r e h m = subst (λ h. MovesOn v (each two h) r w) h (subst (λ k. MovesOn v (each k f) r w) e m)
+
+-- a question that is asked of the text section and of each child of a node o
+module _ (one : List ℕ → Node → Option Event) (v : Walk) (first : Children) where
+  abbrev asks : Node → Option Event
+  asks = one (tree_text first.tree.now)
+
+  asked : (s t : Children) (n : TreeNode) (e : Option Event) → s.tree.now ≡ first.tree.now → Comes s n t → e ≡ one (section n) (here n) → e ≡ asks (here n)
+  asked s t n e q c is = is ∙ ap (λ (k : Tree). one (tree_text k) (here n)) (c.tree ∙ q)
+
+  pub each_step :
+      (w u : Walk) (s t : Children) (n : TreeNode) (e : Option Event) → s.tree.now ≡ first.tree.now → Onward asks v w (left first) (left s) → Comes s n t → e ≡ one (section n) (here n) →
+      Took w (once e) u → Onward asks v u (left first) (left t)
+  each_step w u s t n e q g c is m = onward_step asks v w u (left first) s t n e g c (asked s t n e q c is) m
+
+  module _ (o : TreeNode) (items : Children) (given : first ≡ items) (tree : items.tree.now ≡ o.tree.now) (kids : left items ≡ children (tree_rows o.tree.now) o.row) where
+    of_all : (u : Walk) (r : Result (Unit {0}) Full) → MovesOn v (each asks (left first)) r u → MovesOn v (each (one (section o)) (children (tree_rows o.tree.now) o.row)) r u
+    of_all u r m =
+        asked_as asks (one (section o)) (left first) (children (tree_rows o.tree.now) o.row) v u r (ap (λ (k : Tree). one (tree_text k)) (ap (λ (it : Children). it.tree.now) given ∙ tree)) (ap left given ∙ kids) m
+
+    pub each_stuck :
+        (w u : Walk) (s t : Children) (n : TreeNode) (e : Option Event) (r : Result (Unit {0}) Full) → s.tree.now ≡ first.tree.now → Onward asks v w (left first) (left s) → Comes s n t → e ≡ one (section n) (here n) → is_err r ≡ true →
+        Halted w (once e) u → MovesOn v (each (one (section o)) (children (tree_rows o.tree.now) o.row)) r u
+    each_stuck w u s t n e r q g c is err m =
+        let stuck = onward_stuck asks v w u (left first) s t n e g c (asked s t n e q c is) m in
+        of_all u r (stuck.0, stuck.1, stuck_by v.text.now v.tables.now (each asks (left first)) u.tables.now r err stuck.2)
+
+    pub each_done : (w : Walk) (rest : Forest) → Onward asks v w (left first) rest → rest ≡ nil → MovesOn v (each (one (section o)) (children (tree_rows o.tree.now) o.row)) (Ok tt) w
+    each_done w rest g e = of_all w (Ok tt) (onward_done asks v w (left first) rest g e)

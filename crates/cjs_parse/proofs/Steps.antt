@@ -1,91 +1,120 @@
 -- One event on four tables, and events one after the other.
-use Rattle.std.proofs.Common.{◌≡◌, ℕ, ◌+◌, ◌-◌, ◌≤◌, Bool, true, false, cond, List, [], ◌∷◌, ◌++◌, length, take, replicate, is_err, Some, None, Ok, Err, Result, sym, refl, ap, ◌∙◌, true≢false, arith}
-use Rattle.std.proofs.lemmas.List.{length-append, length-replicate, length-take-le, take-append-drop, take-append-le, take_all}
-use Rattle.table.specs.Table.{Left, Rest, Stored}
+use Rattle.std.proofs.Common.{◌≡◌, ℕ, ◌≤◌, Bool, true, false, cond, List, [], ◌∷◌, length, take, is_err, is_ok, Some, None, Ok, Err, Result, sym, refl, ap, ◌∙◌, subst, true≢false, arith}
+use Rattle.std.proofs.lemmas.Bool.{false_from_ne_true}
+use Rattle.std.proofs.lemmas.List.{length-take-le}
+use Rattle.table.specs.Table.{Rest}
+use Rattle.table.specs.Kind.{Inserts, Leaves, Ordered, Puts}
+use Rattle.table.specs.Kinds.{places, bindings as binding_kind}
+use Rattle.table.specs.declared.binding.Binding.{Binding}
 use Rattle.table.specs.declared.table.Full.{Full}
+use Rattle.table.specs.declared.table.OrderedTable.{OrderedTable}
 use Rattle.text.specs.declared.place.Place.{Place}
+use Rattle.table.proofs.Entered.{length_left, stored_left, take_left}
+use Rattle.findings.proofs.Leaving.{lenders_kept, own_lenders}
 use Rattle.findings.specs.Tables.{Found, Room, SameLenders, room_of}
 use Rattle.findings.specs.declared.tables.FindingsTables.{FindingsTables}
 use Rattle.cjs_law.specs.declared.event.Event.{Event}
-use Rattle.cjs_law.specs.declared.event.Event.TheVariants.{Reexport, Replace}
+use Rattle.cjs_law.specs.declared.event.Event.TheVariants.{Bind, Export, Reexport, Unsafe, Replace}
 use Rattle.cjs_law.specs.Findings.{Fits, fits}
 use Rattle.cjs_law.proofs.Stands.{fits_so, so_fits}
-use Rattle.cjs_parse.specs.State.{Moved, Moves, Sound, Stuck, apply, goes, state}
+use Rattle.cjs_parse.specs.State.{Kept, Moved, Moves, Sound, Stuck, apply, goes, state}
 
-module _ {X : Type 0} (z : X) (n : ℕ) (rows ys : List X) (new : Bool) (m : ℕ) (after : List X) (s : Stored z n rows ys new m after) where
-  pub stored_take : take m after ≡ ys
-  stored_take = rw (s.rows_is, s.len_is) (take-append-le (length ys) ys (replicate (length rows - length ys) z) (omega arith) ∙ take_all (length ys) ys (omega arith))
-
-  pub stored_length : length after ≡ length rows
-  stored_length =
-      let r = s.room in
-      ap length s.rows_is ∙ length-append ys (replicate (length rows - length ys) z) ∙ ap (λ k. length ys + k) (length-replicate (length rows - length ys) z) ∙ (omega arith)
-
-pub rest_fits : {X : Type 0} (z : X) (n : ℕ) (rows : List X) → Rest z n rows → length (take n rows) ≤ length rows
+rest_fits : {X : Type 0} (z : X) (n : ℕ) (rows : List X) → Rest z n rows → length (take n rows) ≤ length rows
 rest_fits z n rows r = let e = length-take-le n rows r.fits in let f = r.fits in (omega arith)
 
 by_test : (T : List ℕ) (k : Room) (e : Event) (f : Found) (t : Bool) → fits k (apply T e f) ≡ t → goes T k (e ∷ []) f ≡ cond t (Some (apply T e f)) None
 unfolding goes
 by_test T k e f t h = ap (λ b. cond b (Some (apply T e f)) None) h
 
-pub one_fits : (T : List ℕ) (k : Room) (e : Event) (f : Found) → Fits k (apply T e f) → goes T k (e ∷ []) f ≡ Some (apply T e f)
+one_fits : (T : List ℕ) (k : Room) (e : Event) (f : Found) → Fits k (apply T e f) → goes T k (e ∷ []) f ≡ Some (apply T e f)
 one_fits T k e f h = by_test T k e f true (so_fits k (apply T e f) h)
 
-is_false : (a : Bool) → (a ≡ true → ⊥) → a ≡ false
-is_false true n = absurd (n refl)
-is_false false n = refl
-
-pub one_full : (T : List ℕ) (k : Room) (e : Event) (f : Found) → (Fits k (apply T e f) → ⊥) → goes T k (e ∷ []) f ≡ None
-one_full T k e f n = by_test T k e f false (is_false (fits k (apply T e f)) (λ h. n (fits_so k (apply T e f) h)))
+one_full : (T : List ℕ) (k : Room) (e : Event) (f : Found) → (Fits k (apply T e f) → ⊥) → goes T k (e ∷ []) f ≡ None
+one_full T k e f n = by_test T k e f false (false_from_ne_true (fits k (apply T e f)) (λ h. n (fits_so k (apply T e f) h)))
 
 pub stuck_by : (T : List ℕ) (v : FindingsTables) (es : List Event) (w : FindingsTables) (r : Result (Unit {0}) Full) → is_err r ≡ true → Stuck T v es w → Moves T v es r w
 stuck_by T v es w (Ok x) e s = absurd (true≢false (sym e))
 stuck_by T v es w (Err x) e s = s
 
-pub own_lenders : (v : FindingsTables) → SameLenders v v
-own_lenders v = record { bindings = refl; exports = refl; reexports = refl; unsafes = refl }
+-- tables in order that hold what the event asks for have taken it in
+entered : (T : List ℕ) (v w : FindingsTables) (e : Event) → Sound T w → SameLenders v w → room_of w ≡ room_of v → state w ≡ apply T e (state v) → Moved T v (e ∷ []) w
+entered T v w e s l k is =
+    let own : Fits (room_of w) (state w) = record { bindings = rest_fits _ _ _ s.bindings.rest; exports = rest_fits _ _ _ s.exports.rest; reexports = rest_fits _ _ _ s.reexports.rest; unsafes = rest_fits _ _ _ s.unsafes.rest } in
+    record {
+      to = one_fits T (room_of v) e (state v) (subst (λ f. Fits (room_of v) f) is (subst (λ r. Fits r (state w)) k own)) ∙ ap Some (sym is);
+      kept = record { room = k; lenders = l };
+      sound = s;
+    }
+
+-- a row that went into one of the tables
+module _ (T : List ℕ) (v : FindingsTables) where
+  pub exported : (p : Place) (t : OrderedTable Place) (r : Result Bool Full) → Sound T v → is_ok r ≡ true → Inserts places T p v.exports r t → Ordered places T t → Moved T v (Export p ∷ []) (record { bindings = v.bindings; exports = t; reexports = v.reexports; unsafes = v.unsafes })
+  exported p t (Ok new) h q i o =
+      entered T v (record { bindings = v.bindings; exports = t; reexports = v.reexports; unsafes = v.unsafes }) (Export p)
+      (record { bindings = h.bindings; exports = o; reexports = h.reexports; unsafes = h.unsafes })
+      (record { bindings = refl; exports = i.lender; reexports = refl; unsafes = refl })
+      (λ n. record { bindings = (room_of v).bindings; exports = length_left (stored_left i.rows) i.rows.room n; reexports = (room_of v).reexports; unsafes = (room_of v).unsafes })
+      (λ n. record { bindings = (state v).bindings; exports = take_left (stored_left i.rows) n; reexports = (state v).reexports; unsafes = (state v).unsafes })
+  exported p t (Err x) h q i o = absurd (true≢false (sym q))
+
+  pub reexported : (p : Place) (t : OrderedTable Place) (r : Result Bool Full) → Sound T v → is_ok r ≡ true → Inserts places T p v.reexports r t → Ordered places T t → Moved T v (Reexport p ∷ []) (record { bindings = v.bindings; exports = v.exports; reexports = t; unsafes = v.unsafes })
+  reexported p t (Ok new) h q i o =
+      entered T v (record { bindings = v.bindings; exports = v.exports; reexports = t; unsafes = v.unsafes }) (Reexport p)
+      (record { bindings = h.bindings; exports = h.exports; reexports = o; unsafes = h.unsafes })
+      (record { bindings = refl; exports = refl; reexports = i.lender; unsafes = refl })
+      (λ n. record { bindings = (room_of v).bindings; exports = (room_of v).exports; reexports = length_left (stored_left i.rows) i.rows.room n; unsafes = (room_of v).unsafes })
+      (λ n. record { bindings = (state v).bindings; exports = (state v).exports; reexports = take_left (stored_left i.rows) n; unsafes = (state v).unsafes })
+  reexported p t (Err x) h q i o = absurd (true≢false (sym q))
+
+  pub marked_unsafe : (p : Place) (t : OrderedTable Place) (r : Result Bool Full) → Sound T v → is_ok r ≡ true → Inserts places T p v.unsafes r t → Ordered places T t → Moved T v (Unsafe p ∷ []) (record { bindings = v.bindings; exports = v.exports; reexports = v.reexports; unsafes = t })
+  marked_unsafe p t (Ok new) h q i o =
+      entered T v (record { bindings = v.bindings; exports = v.exports; reexports = v.reexports; unsafes = t }) (Unsafe p)
+      (record { bindings = h.bindings; exports = h.exports; reexports = h.reexports; unsafes = o })
+      (record { bindings = refl; exports = refl; reexports = refl; unsafes = i.lender })
+      (λ n. record { bindings = (room_of v).bindings; exports = (room_of v).exports; reexports = (room_of v).reexports; unsafes = length_left (stored_left i.rows) i.rows.room n })
+      (λ n. record { bindings = (state v).bindings; exports = (state v).exports; reexports = (state v).reexports; unsafes = take_left (stored_left i.rows) n })
+  marked_unsafe p t (Err x) h q i o = absurd (true≢false (sym q))
+
+  pub bound : (name value : Place) (t : OrderedTable Binding) (r : Result Bool Full) → Sound T v → is_ok r ≡ true → Puts binding_kind T (record { name = name; value = value }) v.bindings r t → Ordered binding_kind T t → Moved T v (Bind name value ∷ []) (record { bindings = t; exports = v.exports; reexports = v.reexports; unsafes = v.unsafes })
+  bound name value t (Ok new) h q i o =
+      entered T v (record { bindings = t; exports = v.exports; reexports = v.reexports; unsafes = v.unsafes }) (Bind name value)
+      (record { bindings = o; exports = h.exports; reexports = h.reexports; unsafes = h.unsafes })
+      (record { bindings = i.lender; exports = refl; reexports = refl; unsafes = refl })
+      (λ n. record { bindings = length_left (stored_left i.rows) i.rows.room n; exports = (room_of v).exports; reexports = (room_of v).reexports; unsafes = (room_of v).unsafes })
+      (λ n. record { bindings = take_left (stored_left i.rows) n; exports = (state v).exports; reexports = (state v).reexports; unsafes = (state v).unsafes })
+  bound name value t (Err x) h q i o = absurd (true≢false (sym q))
+
+-- tables that have no room for what the event asks for are stuck
+pub no_room : (T : List ℕ) (v w : FindingsTables) (e : Event) (r : Result (Unit {0}) Full) → is_err r ≡ true → SameLenders v w → room_of w ≡ room_of v → (Fits (room_of v) (apply T e (state v)) → ⊥) → Moves T v (e ∷ []) r w
+no_room T v w e r q l k n = stuck_by T v (e ∷ []) w r q (record { full = one_full T (room_of v) e (state v) n; kept = record { room = k; lenders = l } })
 
 pub moved_none : (T : List ℕ) (v : FindingsTables) (es : List Event) → Sound T v → es ≡ [] → Moved T v es v
 unfolding goes
-moved_none T v es s e = record { to = ap (λ l. goes T (room_of v) l (state v)) e; room = refl; lenders = own_lenders v; sound = s }
+moved_none T v es s e = record { to = ap (λ l. goes T (room_of v) l (state v)) e; kept = record { room = refl; lenders = own_lenders v }; sound = s }
 
-pub lenders_on : (u v w : FindingsTables) → SameLenders u v → SameLenders v w → SameLenders u w
-lenders_on u v w a b =
-    record {
-      bindings = b.bindings ∙ a.bindings;
-      exports = b.exports ∙ a.exports;
-      reexports = b.reexports ∙ a.reexports;
-      unsafes = b.unsafes ∙ a.unsafes;
-    }
+pub kept_on : (u v w : FindingsTables) → Kept u v → Kept v w → Kept u w
+kept_on u v w a b = record { room = b.room ∙ a.room; lenders = lenders_kept u v w a.lenders b.lenders }
 
-abbrev without_reexports : Found → Found
-without_reexports f = record { bindings = f.bindings; exports = f.exports; reexports = []; unsafes = f.unsafes }
-
-replace_is : (T : List ℕ) (k : Room) (p : Place) (f : Found) → goes T k (Replace p ∷ []) f ≡ goes T k (Reexport p ∷ []) (without_reexports f)
+replace_is : (T : List ℕ) (k : Room) (p : Place) (f : Found) → goes T k (Replace p ∷ []) f ≡ goes T k (Reexport p ∷ []) (record { bindings = f.bindings; exports = f.exports; reexports = []; unsafes = f.unsafes })
 unfolding goes
 replace_is T k p f = refl
 
--- a re-export into a cleared table is what a replacement does
-pub replaced : (T : List ℕ) (v u w : FindingsTables) (p : Place) (r : Result (Unit {0}) Full) → state u ≡ without_reexports (state v) → room_of u ≡ room_of v → SameLenders v u → Moves T u (Reexport p ∷ []) r w → Moves T v (Replace p ∷ []) r w
-replaced T v u w p (Ok x) s k l m =
-    record {
-      to = replace_is T (room_of v) p (state v) ∙ (λ i. goes T (sym k i) (Reexport p ∷ []) (sym s i)) ∙ m.to;
-      room = m.room ∙ k;
-      lenders = lenders_on v u w l m.lenders;
-      sound = m.sound;
-    }
-replaced T v u w p (Err x) s k l m =
-    record {
-      full = replace_is T (room_of v) p (state v) ∙ (λ i. goes T (sym k i) (Reexport p ∷ []) (sym s i)) ∙ m.full;
-      room = m.room ∙ k;
-      lenders = lenders_on v u w l m.lenders;
-    }
+-- a re-export into an emptied table is what a replacement does
+module _ (T : List ℕ) (v : FindingsTables) (p : Place) (t : OrderedTable Place) (emptied : Leaves places [] v.reexports t) where
+  abbrev u : FindingsTables
+  u = record { bindings = v.bindings; exports = v.exports; reexports = t; unsafes = v.unsafes }
 
--- rows in order, with a rest of zeros, are the rows below the count and then zeros
-pub left_as_is : {X : Type 0} (z : X) (n : ℕ) (rows : List X) → Rest z n rows → Left z (length rows) (take n rows) n rows
-left_as_is z n rows r =
-    let e = length-take-le n rows r.fits in
-    record {
-      len_is = sym e;
-      rows_is = sym (take-append-drop n rows) ∙ ap (λ l. take n rows ++ l) (r.zeros ∙ ap (λ m. replicate (length rows - m) z) (sym e));
-    }
+  same_room : room_of u ≡ room_of v
+  same_room = λ i. record { bindings = (room_of v).bindings; exports = (room_of v).exports; reexports = length_left emptied.rows (omega arith) i; unsafes = (room_of v).unsafes }
+
+  goes_as : goes T (room_of v) (Replace p ∷ []) (state v) ≡ goes T (room_of u) (Reexport p ∷ []) (state u)
+  goes_as =
+      replace_is T (room_of v) p (state v)
+      ∙ sym (λ i. goes T (same_room i) (Reexport p ∷ []) (record { bindings = (state v).bindings; exports = (state v).exports; reexports = take_left emptied.rows i; unsafes = (state v).unsafes }))
+
+  same_rows : Kept v u
+  same_rows = record { room = same_room; lenders = record { bindings = refl; exports = refl; reexports = emptied.lender; unsafes = refl } }
+
+  pub replaced : (r : Result (Unit {0}) Full) (w : FindingsTables) → Moves T u (Reexport p ∷ []) r w → Moves T v (Replace p ∷ []) r w
+  replaced (Ok x) w m = record { to = goes_as ∙ m.to; kept = kept_on v u w same_rows m.kept; sound = m.sound }
+  replaced (Err x) w m = record { full = goes_as ∙ m.full; kept = kept_on v u w same_rows m.kept }

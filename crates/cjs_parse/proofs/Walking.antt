@@ -1,5 +1,5 @@
 -- The walk from one row to the next.
-use Rattle.std.proofs.Common.{◌≡◌, ℕ, ◌+◌, ◌<◌, ◌≤◌, Bool, true, false, cond, List, [], ◌∷◌, ◌++◌, length, Ok, sym, refl, ap, ◌∙◌, subst, append_assoc, arith}
+use Rattle.std.proofs.Common.{◌≡◌, ℕ, ◌+◌, ◌<◌, ◌≤◌, Bool, true, false, cond, List, [], ◌∷◌, ◌++◌, length, Ok, sym, refl, ap, ◌∙◌, subst, append_assoc}
 use Rattle.tree.specs.declared.row.Row.{Row}
 use Rattle.tree.specs.declared.node.Node.{Node as TreeNode}
 use Rattle.tree.specs.declared.tree.Tree.{Tree}
@@ -8,7 +8,9 @@ use Rattle.tree.specs.Subject.{tree_rows, tree_text}
 use Rattle.tree.specs.Forest.{Forest, Nested, children, end_at, forest, nil, node, row_at}
 use Rattle.tree.proofs.Grown.{forest_none}
 use Rattle.tree.proofs.Split.{append, forest_at, forest_on, nested_of}
-use Rattle.findings.specs.Tables.{Found, SameLenders, nothing, room_of}
+use Rattle.findings.specs.Tables.{Found, room_of}
+use Rattle.findings.specs.declared.refusal.FindingsFault.{FindingsFault}
+use Rattle.findings.specs.declared.refusal.FindingsFault.TheVariants.{Full}
 use Rattle.findings.specs.declared.tables.FindingsTables.{FindingsTables}
 use Rattle.cjs_law.specs.declared.event.Event.{Event}
 use Rattle.cjs_law.specs.Events.{events}
@@ -19,10 +21,11 @@ use Rattle.cjs_parse.specs.declared.visited.Visited.{Visited}
 use Rattle.cjs_parse.specs.declared.walk.Walk.{Walk}
 use Rattle.cjs_parse.specs.Moving.{bound_by}
 use Rattle.cjs_parse.specs.Visited.{Comes}
-use Rattle.cjs_parse.specs.State.{Finished, GaveUp, Moved, Sound, Stuck, after, goes, look, state}
+use Rattle.cjs_parse.specs.State.{Finished, GaveUp, Kept, Moved, Sound, Stuck, after, goes, look, state}
 use Rattle.cjs_parse.proofs.Entered.{Told, told}
+use Rattle.cjs_parse.proofs.Moving.{Halted, Took}
 use Rattle.cjs_parse.proofs.Named.{bound_held}
-use Rattle.cjs_parse.proofs.Steps.{lenders_on, own_lenders}
+use Rattle.cjs_parse.proofs.Steps.{kept_on}
 
 walked_append : (f g : Forest) → walked (append f g) ≡ walked f ++ walked g
 walked_append nil g = refl
@@ -48,26 +51,15 @@ module _ (rs : List Row) (law : Nested rs) where
   pub left_none : (j : ℕ) → length rs ≤ j → left j ≡ []
   left_none j h = ap walked (forest_none rs law j (length rs) h)
 
-  after_by : (j : ℕ) → j < end_at rs j → (t : Bool) → j < cond t (end_at rs j) (j + 1)
-  after_by j h true = h
-  after_by j h false = omega arith
-
-  pub after_rises : (j : ℕ) → j < length rs → j < after rs j
-  after_rises j h = after_by j (law.above j h) (skips (row_at rs j))
-
 -- the tables hold what was done so far, and the outcome of the whole walk is that of what is left of it
 pub record Going (T : List ℕ) (rs : List Row) (v w : FindingsTables) (j : ℕ) : Type 0 where
   pub done : List Act
   pub sound : Sound T w
-  pub room : room_of w ≡ room_of v
-  pub lenders : SameLenders v w
+  pub kept : Kept v w
   pub holds : state w ≡ held T done
   pub onward : outcome T (room_of v) (acts_of T rs) ≡ outcome_after T (room_of v) done (acts_from T done (walked (forest rs j (length rs))))
 
 module _ (T : List ℕ) (rs : List Row) (v : FindingsTables) where
-  pub going_first : Sound T v → state v ≡ nothing → Going T rs v v 0
-  going_first s e = record { done = []; sound = s; room = refl; lenders = own_lenders v; holds = e; onward = refl }
-
   module _ (law : Nested rs) (w u : FindingsTables) (j : ℕ) (h : j < length rs) (g : Going T rs v w j) where
     abbrev asked : List Event
     asked = events T (look T (state w).bindings) (row_at rs j) (children rs j)
@@ -88,7 +80,7 @@ module _ (T : List ℕ) (rs : List Row) (v : FindingsTables) where
     whole = g.onward ∙ ap (λ l. outcome_after T (room_of v) g.done (acts_from T g.done l)) (left_on rs law j h)
 
     from_held : goes T (room_of w) asked (state w) ≡ goes T (room_of v) due (held T g.done)
-    from_held = λ i. goes T (g.room i) (asked_is_due i) (g.holds i)
+    from_held = λ i. goes T (g.kept.room i) (asked_is_due i) (g.holds i)
 
     pub going_on : Moved T w asked u → Going T rs v u (after rs j)
     going_on m =
@@ -96,18 +88,18 @@ module _ (T : List ℕ) (rs : List Row) (v : FindingsTables) where
         record {
           done = g.done ++ here;
           sound = m.sound;
-          room = m.room ∙ g.room;
-          lenders = lenders_on v w u g.lenders m.lenders;
+          kept = kept_on v w u g.kept m.kept;
           holds = t.0;
           onward = whole ∙ t.1;
         }
 
-    pub gave_up : Stuck T w asked u → GaveUp T rs v j u
-    gave_up s =
+    pub gave_up : (m : ℕ) (e : FindingsFault) → e ≡ Full m j → Stuck T w asked u → GaveUp m T rs v e u
+    gave_up m e f s =
         record {
+          row = j;
+          fault = f;
           outcome = whole ∙ subst (Told T (room_of v) g.done j due rest) (sym from_held ∙ s.full) (told T (room_of v) j g.done due rest);
-          room = s.room ∙ g.room;
-          lenders = lenders_on v w u g.lenders s.lenders;
+          kept = kept_on v w u g.kept s.kept;
         }
 
   pub finished : Nested rs → (w : FindingsTables) (j : ℕ) → length rs ≤ j → Going T rs v w j → Finished T rs v w
@@ -117,8 +109,7 @@ module _ (T : List ℕ) (rs : List Row) (v : FindingsTables) where
             g.onward
             ∙ ap (λ l. outcome_after T (room_of v) g.done (acts_from T g.done l)) (left_none rs law j h)
             ∙ ap (λ f. Ok (safe T f)) (sym g.holds);
-        room = g.room;
-        lenders = g.lenders;
+        kept = g.kept;
         sound = g.sound;
       }
 
@@ -138,16 +129,16 @@ module _ (t : Tree) (v : FindingsTables) (w u : Walk) (s then : Visited) (n : Tr
   inside : s.next < length (tree_rows t)
   inside = subst (λ (k : Tree). s.next < length (tree_rows k)) e c.inside
 
-  pub walked_on : (u.text.now ≡ w.text.now) × (u.tables.ghost_name ≡ w.tables.ghost_name) × Moved w.text.now w.tables.now asked_by u.tables.now → Going (tree_text t) (tree_rows t) v u.tables.now then.next
+  pub walked_on : Took w asked_by u → Going (tree_text t) (tree_rows t) v u.tables.now then.next
   walked_on m =
       let moved : Moved (tree_text t) w.tables.now asked_at u.tables.now = subst (λ S. Moved S w.tables.now asked_at u.tables.now) x (subst (λ es. Moved w.text.now w.tables.now es u.tables.now) asked_same m.2) in
       let next : then.next ≡ after (tree_rows t) s.next = c.next ∙ ap (λ (k : Tree). after (tree_rows k) s.next) e in
       subst (Going (tree_text t) (tree_rows t) v u.tables.now) (sym next) (going_on (tree_text t) (tree_rows t) v (nested_of t) w.tables.now u.tables.now s.next inside g moved)
 
-  pub gave_up_at : (j : ℕ) → j ≡ n.row → (u.text.now ≡ w.text.now) × (u.tables.ghost_name ≡ w.tables.ghost_name) × Stuck w.text.now w.tables.now asked_by u.tables.now → GaveUp (tree_text t) (tree_rows t) v j u.tables.now
-  gave_up_at j q m =
-      let stuck : Stuck (tree_text t) w.tables.now asked_at u.tables.now = subst (λ S. Stuck S w.tables.now asked_at u.tables.now) x (subst (λ es. Stuck w.text.now w.tables.now es u.tables.now) asked_same m.2) in
-      subst (λ i. GaveUp (tree_text t) (tree_rows t) v i u.tables.now) (sym (q ∙ c.row)) (gave_up (tree_text t) (tree_rows t) v (nested_of t) w.tables.now u.tables.now s.next inside g stuck)
+  pub gave_up_at : (m : ℕ) (e : FindingsFault) → e ≡ Full m n.row → Halted w asked_by u → GaveUp m (tree_text t) (tree_rows t) v e u.tables.now
+  gave_up_at m e f k =
+      let stuck : Stuck (tree_text t) w.tables.now asked_at u.tables.now = subst (λ S. Stuck S w.tables.now asked_at u.tables.now) x (subst (λ es. Stuck w.text.now w.tables.now es u.tables.now) asked_same k.2) in
+      gave_up (tree_text t) (tree_rows t) v (nested_of t) w.tables.now u.tables.now s.next inside g m e (f ∙ ap (Full m) c.row) stuck
 
 pub walked_all : (t : Tree) (v : FindingsTables) (w : FindingsTables) (s : Visited) → s.tree.now ≡ t → Going (tree_text t) (tree_rows t) v w s.next → length (tree_rows s.tree.now) ≤ s.next → Finished (tree_text t) (tree_rows t) v w
 walked_all t v w s e g h = finished (tree_text t) (tree_rows t) v (nested_of t) w s.next (subst (λ (k : Tree). length (tree_rows k) ≤ s.next) e h) g

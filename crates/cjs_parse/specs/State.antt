@@ -1,5 +1,6 @@
 -- What the tables hold during the walk, and what events do to them.
 use Rattle.std.specs.Prelude.{◌≡◌, ℕ, ◌+◌, cond, List, [], ◌∷◌, take, Some, None, Ok, Err, Option, Result}
+use Rattle.std.specs.Result.{MatchResult}
 use Rattle.std.specs.Str.{bytes_eq}
 use Rattle.table.specs.Kind.{Holds}
 use Rattle.table.specs.Kinds.{bindings as binding_kind, places as place_kind}
@@ -55,18 +56,21 @@ unfoldable pub goes : List ℕ → Room → List Event → Found → Option Foun
 goes T room [] f = Some f
 goes T room (e ∷ es) f = cond (fits room (apply T e f)) (goes T room es (apply T e f)) None
 
+-- as many rows, lent by whoever lent them
+pub record Kept (v w : FindingsTables) : Type 0 where
+  pub room : room_of w ≡ room_of v
+  pub lenders : SameLenders v w
+
 -- the tables have taken the events in
 pub record Moved (T : List ℕ) (v : FindingsTables) (es : List Event) (w : FindingsTables) : Type 0 where
   pub to : goes T (room_of v) es (state v) ≡ Some (state w)
-  pub room : room_of w ≡ room_of v
-  pub lenders : SameLenders v w
+  pub kept : Kept v w
   pub sound : Sound T w
 
 -- there is no room for one of them
 pub record Stuck (T : List ℕ) (v : FindingsTables) (es : List Event) (w : FindingsTables) : Type 0 where
   pub full : goes T (room_of v) es (state v) ≡ None
-  pub room : room_of w ≡ room_of v
-  pub lenders : SameLenders v w
+  pub kept : Kept v w
 
 abbrev pub Moves : List ℕ → FindingsTables → List Event → Result (Unit {0}) Full → FindingsTables → Type 0
 Moves T v es (Ok _) w = Moved T v es w
@@ -79,17 +83,16 @@ after rs j = cond (skips (row_at rs j)) (end_at rs j) (j + 1)
 -- the walk over rows ends with the tables of its outcome, but that no text is dropped yet
 pub record Finished (T : List ℕ) (rs : List Row) (v w : FindingsTables) : Type 0 where
   pub outcome : outcome T (room_of v) (acts_of T rs) ≡ Ok (safe T (state w))
-  pub room : room_of w ≡ room_of v
-  pub lenders : SameLenders v w
+  pub kept : Kept v w
   pub sound : Sound T w
 
 -- it is refused at the row of its outcome
-pub record GaveUp (T : List ℕ) (rs : List Row) (v : FindingsTables) (j : ℕ) (w : FindingsTables) : Type 0 where
-  pub outcome : outcome T (room_of v) (acts_of T rs) ≡ Err j
-  pub room : room_of w ≡ room_of v
-  pub lenders : SameLenders v w
+pub record GaveUp (m : ℕ) (T : List ℕ) (rs : List Row) (v : FindingsTables) (e : FindingsFault) (w : FindingsTables) : Type 0 where
+  pub row : ℕ
+  pub fault : e ≡ Refused m row
+  pub outcome : outcome T (room_of v) (acts_of T rs) ≡ Err row
+  pub kept : Kept v w
 
 -- the walk over the rows of a module's tree ends, or is refused
 abbrev pub Ends : ℕ → List ℕ → List Row → FindingsTables → Result (Unit {0}) FindingsFault → FindingsTables → Type 0
-Ends m T rs v (Ok _) w = Finished T rs v w
-Ends m T rs v (Err (Refused n j)) w = (n ≡ m) × GaveUp T rs v j w
+Ends m T rs v r w = MatchResult r (λ _. Finished T rs v w) (λ e. GaveUp m T rs v e w)

@@ -13,6 +13,12 @@ pub record Comes (before : Visited) (n : Node) (then : Visited) : Type 0 where
   pub same : then.tree.now ≡ before.tree.now
   pub next : then.next ≡ after (tree_rows before.tree.now) before.next
 
+-- past the rows there is no node, and nothing moves
+pub record Ended (before then : Visited) : Type 0 where
+  pub past : length (tree_rows before.tree.now) ≤ before.next
+  pub same : then.tree.now ≡ before.tree.now
+  pub next : then.next ≡ before.next
+
 -- one step: the next node, or none past the rows
 abbrev pub Gives : Visited → Option Node → Visited → Type 0
-Gives before result then = MatchOption result (length (tree_rows before.tree.now) ≤ before.next) (λ n. Comes before n then)
+Gives before result then = MatchOption result (Ended before then) (λ n. Comes before n then)

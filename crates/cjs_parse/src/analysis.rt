@@ -4,56 +4,52 @@ ghost use Rattle.cjs_law.specs.Laws.{ActsDecideTheLists};
 ghost use Rattle.cjs_law.specs.Walk.{WalkReachesWhatIsNotSkipped};
 ghost use Rattle.cjs_parse.specs.Outcome.{cjs_outcome};
 ghost use Rattle.cjs_parse.specs.State.{Ends, Sound, state};
-ghost use Rattle.findings.specs.Tables.{Analysed, SameLenders, nothing, room_of};
+ghost use Rattle.findings.specs.Tables.{Analysed, nothing, room_of};
 ghost use Rattle.tree.specs.Subject.{tree_module, tree_rows, tree_text};
 
 use crate::visited::Visited;
 use crate::walk::{Walk, take_result};
 use findings::parsed_source::ProgramRef;
 use findings::{FindingsFault, FindingsTables};
-use table::Full;
 use tree::Tree;
 
-/// Walks over the nodes and enters what they ask for in empty tables. It is refused at the row at which a table has no free row.
+/// Walks over the nodes and enters what they ask for in empty tables. It is refused at the row at which a table has no
+/// free row.
+// `Sound` is asked: a method of `Walk`, whose invariant it is, would ask in its place that its text is the tree's.
 fn walk<'a>(tables: &mut FindingsTables, tree: &'a Tree<'a>) -> Result<(), FindingsFault>
     requires sound { Sound (tree_text tree.now) tables.old }
     requires empty { state tables.old ≡ nothing }
     ensures { Ends (tree_module tree.now) (tree_text tree.now) (tree_rows tree.now) tables.old result tables.new }
 {
+    let module = tree.module();
     let text = tree.text_section();
     let mut walk = Walk { tables, text };
     let visited = Visited { tree, next: 0 };
     for node in visited {
-        match walk.visit(node) {
-            Ok(()) => {}
-            Err(Full) => {
-                let module = tree.module();
-                let row = node.row();
-                return Err(FindingsFault::Full { module, row });
-            }
-        }
+        let row = node.row();
+        walk.visit(node)
+            .map_err(|_| FindingsFault::Full { module, row })?;
     }
     Ok(())
 }
 
-/// Finds the CommonJS exports and re-exports of a program: one walk over its rows, and what it leaves in the tables. Where a table
-/// has no free row for a new entry, it is refused at the row where the walk acted, and every row of the tables is zero.
+/// Finds the CommonJS exports and re-exports of a program: one walk over its rows, and what it leaves in the tables.
+/// Where a table has no free row for a new entry, it is refused at the row where the walk acted, and every row of the
+/// tables is zero.
+#[tactic(auto, using(crate::proofs::Laws::walk_laws))]
 pub fn analyze_cjs(program: ProgramRef, tables: &mut FindingsTables) -> Result<(), FindingsFault>
-    ensures analysed { Analysed (tree_module program.entry.tree.now) (room_of tables.old) (cjs_outcome (room_of tables.old) (tree_text program.entry.tree.now) (tree_rows program.entry.tree.now)) result tables.new }
-    ensures lenders { SameLenders tables.old tables.new }
+    ensures analysed { Analysed (tree_module program.entry.tree.now) tables.old (cjs_outcome (room_of tables.old) (tree_text program.entry.tree.now) (tree_rows program.entry.tree.now)) result tables.new }
     ensures walk { WalkReachesWhatIsNotSkipped }
     ensures lists { ActsDecideTheLists }
 {
     let tree = program.tree();
     tables.clear();
-    match walk(tables, tree) {
-        Ok(()) => {
-            take_result(tables, tree.text_section());
-            Ok(())
-        }
-        Err(full) => {
-            tables.clear();
-            Err(full)
-        }
+    let walked = walk(tables, tree);
+    // No `inspect_err`: it leaves open what its closure leaves in the tables where nothing is refused. The arm that
+    // clears them stands in `exports` too, and is shorter than a shared function.
+    match walked {
+        Ok(()) => take_result(tables, tree.text_section()),
+        Err(_) => tables.clear(),
     }
+    walked
 }

@@ -1,8 +1,9 @@
 //! Require values, and what names are bound to.
 ghost use Rattle.std.specs.Prelude.{◌≡◌};
 ghost use Rattle.cjs_parse.specs.Bound.{bound_in, key_name};
-ghost use Rattle.cjs_rules.specs.Nodes.{InTree, any_of_kind, here, section, seen};
-ghost use Rattle.cjs_rules.specs.Rules.{get_export_require_arg, get_member_require_value, none_or_exports, required_or_bound};
+ghost use Rattle.cjs_rules.specs.Nodes.{Finds, any_of_kind, here, section};
+ghost use Rattle.cjs_rules.specs.Rules.{get_export_require_arg, get_member_require_value};
+ghost use Rattle.cjs_rules.specs.Rules.{none_or_exports, required_or_bound};
 ghost use Rattle.kinds.specs.Kinds.{spread};
 ghost use Rattle.tree.specs.Children.{left};
 ghost use Rattle.tree.specs.Subject.{tree_text};
@@ -16,6 +17,7 @@ use text::Place;
 use tree::{Children, Node};
 
 /// The specifier of a member expression `o[key]`, with o bound to it.
+#[tactic(auto, using(crate::proofs::Firsts::few_require))]
 pub(crate) fn get_member_require_value(
     bindings: Bindings,
     member: Node,
@@ -26,13 +28,11 @@ pub(crate) fn get_member_require_value(
     if !member.is(Kind::Member) {
         return None;
     }
-    let mut parts = member.children();
-    let object = parts.next()?;
+    let (object, property) = member.first_two()?;
     if !object.is(Kind::Ident) {
         return None;
     }
     let value = bindings.bound(object)?;
-    let property = parts.next()?;
     if !property.is(Kind::Computed) {
         return None;
     }
@@ -42,8 +42,7 @@ pub(crate) fn get_member_require_value(
 
 /// The name in the brackets of a property `[k]`.
 pub(crate) fn get_key_name<'t, 'a>(property: Node<'t, 'a>) -> Option<Node<'t, 'a>>
-    ensures is { seen result ≡ key_name (here property.entry) }
-    ensures tree { InTree property.entry result }
+    ensures { Finds property.entry (key_name (here property.entry)) result }
 {
     if !property.is(Kind::Computed) {
         return None;

@@ -1,12 +1,13 @@
 //! Nodes of the walk and their events, entered in the tables.
 ghost use Rattle.std.specs.Prelude.{◌≡◌, ◌<◌, length, MatchOption};
-ghost use Rattle.cjs_law.specs.Events.{assign_right, each, events, visit_assign_expr, visit_assign_target, visit_exports_right_expr, visit_prop, visit_var_decl};
+ghost use Rattle.cjs_law.specs.Events.{assign_right, each, events, visit_assign_expr};
+ghost use Rattle.cjs_law.specs.Events.{visit_exports_right_expr, visit_prop, visit_var_decl};
 ghost use Rattle.cjs_parse.specs.Moving.{MovesOn, bound_by};
-ghost use Rattle.cjs_rules.specs.Nodes.{InTree, here, section, seen};
+ghost use Rattle.cjs_rules.specs.Nodes.{Finds, here, section};
 ghost use Rattle.tree.specs.Subject.{tree_rows};
 
 use crate::visit::{
-    visit_call_expr, visit_declarator, visit_exports_call, visit_member_target, visit_prop,
+    visit_call_expr, visit_declarator, visit_exports_call, visit_member_assign, visit_prop,
 };
 use crate::walk::Walk;
 use cjs_rules::exports_object::is_module_exports_or_exports;
@@ -15,17 +16,16 @@ use table::Full;
 use tree::Node;
 
 /// The right side of an Assign, where its mark is 0.
+#[tactic(auto, using(cjs_rules::proofs::FirstTwo::at_most_one))]
 fn get_assign_right<'t, 'a>(assign: Node<'t, 'a>) -> Option<Node<'t, 'a>>
-    ensures is { seen result ≡ assign_right (here assign.entry) }
-    ensures tree { InTree assign.entry result }
+    ensures finds { Finds assign.entry (assign_right (here assign.entry)) result }
     ensures below { MatchOption result (Unit {0}) (λ right. (assign.entry.row < right.row) × (right.row < length (tree_rows assign.entry.tree.now))) }
 {
     if assign.is_marked() {
         return None;
     }
-    let mut parts = assign.children();
-    let _target = parts.next()?;
-    parts.next()
+    let (_target, right) = assign.first_two()?;
+    Some(right)
 }
 
 impl Walk<'_, '_, '_> {
@@ -51,6 +51,7 @@ impl Walk<'_, '_, '_> {
     }
 
     /// Enters what the right side of an assignment to the exports object asks for.
+    #[tactic(auto, using(crate::proofs::Right::not_handed_on, crate::proofs::Steps::moved_none))]
     fn visit_exports_right_expr(&mut self, right: Node) -> Result<(), Full>
         ensures { MovesOn self.old (visit_exports_right_expr (section right.entry) (here right.entry).row (here right.entry).kids) result self.new }
     {
@@ -64,30 +65,24 @@ impl Walk<'_, '_, '_> {
         }
     }
 
-    /// Enters what an assignment of a right side to a target asks for.
-    fn visit_assign_target(&mut self, target: Node, right: Node) -> Result<(), Full>
-        requires { right.tree.now ≡ target.tree.now }
-        ensures { MovesOn self.old (visit_assign_target (section target.entry) (bound_by self.old) (here target.entry) (here right.entry)) result self.new }
-    {
-        if is_module_exports_or_exports(target) {
-            return self.visit_exports_right_expr(right);
-        }
-        let event = visit_member_target(self.bindings(), target, right);
-        self.perform(event)
-    }
-
     /// Enters what an Assign of mark 0 asks for.
+    #[tactic(auto, using(crate::proofs::Firsts::to_exports, crate::proofs::Moving::moves_as))]
     fn visit_assign_expr(&mut self, assign: Node) -> Result<(), Full>
         ensures { MovesOn self.old (visit_assign_expr (section assign.entry) (bound_by self.old) (here assign.entry).kids) result self.new }
     {
-        let mut parts = assign.children();
-        match (parts.next(), parts.next()) {
-            (Some(target), Some(right)) => self.visit_assign_target(target, right),
-            _ => Ok(()),
+        match assign.first_two() {
+            Some((target, right)) if is_module_exports_or_exports(target) => {
+                self.visit_exports_right_expr(right)
+            }
+            _ => {
+                let event = visit_member_assign(self.bindings(), assign);
+                self.perform(event)
+            }
         }
     }
 
     /// Enters what a node asks for.
+    #[tactic(auto, using(crate::proofs::Steps::moved_none))]
     pub(crate) fn visit(&mut self, node: Node) -> Result<(), Full>
         ensures { MovesOn self.old (events (section node.entry) (bound_by self.old) (here node.entry).row (here node.entry).kids) result self.new }
     {

@@ -1,8 +1,8 @@
 //! What each node that the walk acts at asks for.
 ghost use Rattle.std.specs.Prelude.{◌≡◌};
-ghost use Rattle.cjs_law.specs.Events.{export_if, place_of_name, visit_call_expr, visit_declarator, visit_export_call, visit_exports_call, visit_member_target, visit_object_define, visit_prop};
-ghost use Rattle.cjs_parse.specs.Bound.{bound_in};
-ghost use Rattle.cjs_rules.specs.Names.{shown};
+ghost use Rattle.cjs_law.specs.Events.{export_if, visit_call_expr, visit_declarator, visit_export_call};
+ghost use Rattle.cjs_law.specs.Events.{visit_exports_call, visit_member_target, visit_object_define, visit_prop};
+ghost use Rattle.cjs_parse.specs.Bound.{bound_in, of_two};
 ghost use Rattle.cjs_rules.specs.Nodes.{here, section};
 
 use crate::bindings::Bindings;
@@ -22,15 +22,14 @@ use text::Place;
 use tree::Node;
 
 /// What a Declarator binds.
+#[tactic(auto, using(cjs_rules::proofs::FirstTwo::at_most_one))]
 pub(crate) fn visit_declarator(declarator: Node) -> Option<Event>
     ensures { result ≡ visit_declarator (section declarator.entry) (here declarator.entry) }
 {
-    let mut parts = declarator.children();
-    let id = parts.next()?;
+    let (id, init) = declarator.first_two()?;
     if !id.is(Kind::Ident) {
         return None;
     }
-    let init = parts.next()?;
     let value = require_value(init)?;
     let name = id.place();
     Some(Event::Bind { name, value })
@@ -47,11 +46,15 @@ fn export_if(safe: bool, place: Place) -> Event
     }
 }
 
-/// What `Object.defineProperty` on the exports object asks for, with its second and its third argument.
-fn visit_object_define(bindings: Bindings, name: Node, descriptor: Node) -> Option<Event>
-    requires { descriptor.tree.now ≡ name.tree.now }
-    ensures { result ≡ visit_object_define (section name.entry) (bound_in bindings.entry) (here name.entry) (here descriptor.entry) }
+/// What a call of `Object.defineProperty` on the exports object asks for, with its second and its third argument.
+fn visit_object_define(bindings: Bindings, call: Node) -> Option<Event>
+    ensures { result ≡ of_two 2 (visit_object_define (section call.entry) (bound_in bindings.entry)) (here call.entry).kids }
 {
+    let mut parts = call.children();
+    let _callee = parts.next()?;
+    let _object = parts.next()?;
+    let name = parts.next()?;
+    let descriptor = parts.next()?;
     if name.is(Kind::Str) {
         let safe = is_valid_object_define_obj_lit(descriptor);
         return Some(export_if(safe, name.place()));
@@ -66,6 +69,7 @@ fn visit_object_define(bindings: Bindings, name: Node, descriptor: Node) -> Opti
 }
 
 /// What a call of a helper that copies exports asks for.
+#[tactic(auto, using(crate::proofs::Firsts::copied))]
 fn visit_export_call(bindings: Bindings, call: Node) -> Option<Event>
     ensures { result ≡ visit_export_call (section call.entry) (bound_in bindings.entry) (here call.entry).kids }
 {
@@ -82,23 +86,10 @@ fn visit_export_call(bindings: Bindings, call: Node) -> Option<Event>
 pub(crate) fn visit_call_expr(bindings: Bindings, call: Node) -> Option<Event>
     ensures { result ≡ visit_call_expr (section call.entry) (bound_in bindings.entry) (here call.entry).kids }
 {
-    if !is_object_define(call) {
-        return visit_export_call(bindings, call);
-    }
-    let mut parts = call.children();
-    let _callee = parts.next()?;
-    let _object = parts.next()?;
-    let name = parts.next()?;
-    let descriptor = parts.next()?;
-    visit_object_define(bindings, name, descriptor)
-}
-
-/// The place of a property's name.
-fn place_of_name(name: Option<PropName>) -> Option<Place>
-    ensures { result ≡ place_of_name (shown name.entry) }
-{
-    match name? {
-        PropName::Ident(part) | PropName::Str(part) => Some(part.place),
+    if is_object_define(call) {
+        visit_object_define(bindings, call)
+    } else {
+        visit_export_call(bindings, call)
     }
 }
 
@@ -111,9 +102,9 @@ pub(crate) fn visit_prop(property: Node) -> Option<Event>
         let value = require_value(spread)?;
         return Some(Event::Reexport(value));
     }
-    let name = place_of_name(get_prop_name(property))?;
+    let (PropName::Ident(name) | PropName::Str(name)) = get_prop_name(property)?;
     let safe = is_supported_object_prop(property);
-    Some(export_if(safe, name))
+    Some(export_if(safe, name.place))
 }
 
 /// What a Call that is assigned to the exports object asks for.
@@ -124,20 +115,19 @@ pub(crate) fn visit_exports_call(call: Node) -> Option<Event>
     Some(Event::Replace(value))
 }
 
-/// What an assignment to the target asks for, where that is no exports object itself.
-pub(crate) fn visit_member_target(bindings: Bindings, target: Node, right: Node) -> Option<Event>
-    requires { right.tree.now ≡ target.tree.now }
-    ensures { result ≡ visit_member_target (section target.entry) (bound_in bindings.entry) (here target.entry) (here right.entry) }
+/// What an assignment to a property of the exports object asks for.
+#[tactic(auto, using(cjs_rules::proofs::FirstTwo::at_most_one, crate::proofs::Firsts::few_reach_member))]
+pub(crate) fn visit_member_assign(bindings: Bindings, assign: Node) -> Option<Event>
+    ensures { result ≡ of_two 0 (visit_member_target (section assign.entry) (bound_in bindings.entry)) (here assign.entry).kids }
 {
+    let (target, right) = assign.first_two()?;
     if !target.is(Kind::Member) {
         return None;
     }
-    let mut parts = target.children();
-    let object = parts.next()?;
+    let (object, property) = target.first_two()?;
     if !is_module_exports_or_exports(object) {
         return None;
     }
-    let property = parts.next()?;
     if let Some(name) = get_member_prop_text(property) {
         return Some(Event::Export(name));
     }

@@ -25,6 +25,7 @@ fn is_skipped(node: Node) -> bool
 }
 
 /// The row that the walk comes to after row j.
+#[tactic(auto, using(tree::proofs::Split::few_rows))]
 fn next_row(tree: &Tree, j: usize) -> usize
     requires { j < length (tree_rows tree.now) }
     ensures { result ≡ after (tree_rows tree.now) j }

@@ -1,7 +1,7 @@
 //! The tables during the walk, what an event does to them, and what is left of them at the end.
 ghost use Rattle.cjs_law.specs.Findings.{safe};
 ghost use Rattle.cjs_parse.specs.State.{Sound, state};
-ghost use Rattle.findings.specs.Tables.{Hold, SameLenders, room_of};
+ghost use Rattle.findings.specs.Tables.{Leaves};
 
 use crate::bindings::Bindings;
 use cjs_law::Event;
@@ -10,6 +10,7 @@ use table::{Binding, Full};
 use text::Place;
 
 /// The tables that the walk fills, and the text that their rows have their keys in.
+// The text has a lifetime of its own: with that of the borrow of the tables, the check doesn't cover `walk`.
 #[derive(Drop)]
 pub(crate) struct Walk<'w, 't, 'a> {
     pub(crate) tables: &'w mut FindingsTables<'t>,
@@ -18,7 +19,7 @@ pub(crate) struct Walk<'w, 't, 'a> {
 }
 
 // The helpers of the ported source stand apart, under their names.
-impl<'t> Walk<'_, 't, '_> {
+impl Walk<'_, '_, '_> {
     ghost use Rattle.std.specs.Prelude.{◌≡◌, [], ◌∷◌};
     ghost use Rattle.cjs_law.specs.declared.event.Event.TheVariants.{Bind, Export, Reexport, Replace, Unsafe};
     ghost use Rattle.cjs_law.specs.Events.{once};
@@ -26,16 +27,17 @@ impl<'t> Walk<'_, 't, '_> {
     ghost use Rattle.cjs_parse.specs.Moving.{MovesOn, bound_by};
 
     /// The bindings that it has made so far.
-    pub(crate) fn bindings(&self) -> Bindings<'_, 't>
+    pub(crate) fn bindings(&self) -> Bindings<'_>
         ensures { bound_in result ≡ bound_by self.now }
     {
         Bindings {
-            table: &self.tables.bindings,
+            rows: self.tables.bindings.held(),
             text: self.text,
         }
     }
 
     /// Exports a text, unless one of its reading is exported.
+    #[tactic(auto, using(crate::proofs::Steps::exported, crate::proofs::Steps::no_room))]
     fn add_export(&mut self, export: Place) -> Result<(), Full>
         ensures { MovesOn self.old (Export export ∷ []) result self.new }
     {
@@ -44,6 +46,7 @@ impl<'t> Walk<'_, 't, '_> {
     }
 
     /// Re-exports a specifier, unless one of its reading is re-exported.
+    #[tactic(auto, using(crate::proofs::Steps::reexported, crate::proofs::Steps::no_room))]
     fn add_reexport(&mut self, reexport: Place) -> Result<(), Full>
         ensures { MovesOn self.old (Reexport reexport ∷ []) result self.new }
     {
@@ -52,6 +55,7 @@ impl<'t> Walk<'_, 't, '_> {
     }
 
     /// Re-exports a specifier in place of all the others.
+    #[tactic(auto, using(crate::proofs::Steps::replaced))]
     fn set_reexport_assignment_value(&mut self, value: Place) -> Result<(), Full>
         ensures { MovesOn self.old (Replace value ∷ []) result self.new }
     {
@@ -60,6 +64,7 @@ impl<'t> Walk<'_, 't, '_> {
     }
 
     /// Marks a text unsafe, unless one of its reading is marked.
+    #[tactic(auto, using(crate::proofs::Steps::marked_unsafe, crate::proofs::Steps::no_room))]
     fn add_unsafe_getter(&mut self, name: Place) -> Result<(), Full>
         ensures { MovesOn self.old (Unsafe name ∷ []) result self.new }
     {
@@ -68,6 +73,7 @@ impl<'t> Walk<'_, 't, '_> {
     }
 
     /// Binds a name to a specifier, in place of what it was bound to.
+    #[tactic(auto, using(crate::proofs::Steps::bound, crate::proofs::Steps::no_room))]
     fn bind(&mut self, name: Place, value: Place) -> Result<(), Full>
         ensures { MovesOn self.old (Bind name value ∷ []) result self.new }
     {
@@ -78,6 +84,7 @@ impl<'t> Walk<'_, 't, '_> {
     }
 
     /// Enters an event, if there is one, in the tables.
+    #[tactic(auto, using(crate::proofs::Steps::moved_none))]
     pub(crate) fn perform(&mut self, event: Option<Event>) -> Result<(), Full>
         ensures { MovesOn self.old (once event) result self.new }
     {
@@ -93,10 +100,11 @@ impl<'t> Walk<'_, 't, '_> {
 }
 
 /// Drops the unsafe texts from both lists.
+// `Sound` is asked. A method of `Walk`, whose invariant it is, was tried: it proves, but where the walk ends by a call
+// of it, what it leaves in the tables is lost.
 pub(crate) fn take_result(tables: &mut FindingsTables, text: &[u8])
     requires { Sound text.now tables.old }
-    ensures holds { Hold (room_of tables.old) (safe text.now (state tables.old)) tables.new }
-    ensures lenders { SameLenders tables.old tables.new }
+    ensures { Leaves tables.old (safe text.now (state tables.old)) tables.new }
 {
     tables.exports.remove_all(text, &tables.unsafes);
     tables.reexports.remove_all(text, &tables.unsafes);

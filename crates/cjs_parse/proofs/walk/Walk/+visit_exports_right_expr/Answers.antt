@@ -4,8 +4,8 @@ use Rattle.tree.specs.Children.{row_of}
 use Rattle.tree.specs.Subject.{tree_text}
 use Rattle.cjs_law.specs.Events.{visit_exports_right_expr}
 use Rattle.cjs_rules.specs.Nodes.{here, section}
-use Rattle.cjs_parse.proofs.Moving.{moves_as, stays}
-use Rattle.cjs_parse.proofs.Right.{call_of, handed_on, not_handed_on}
+use Rattle.cjs_parse.proofs.Moving.{moves_as}
+use Rattle.cjs_parse.proofs.Right.{call_of, handed_on}
 use Rattle.cjs_parse.proofs.walk.Walk.+visit_exports_right_expr.Goals as goal
 
 pub returns-in-Some : goal.returns-in-Some
@@ -14,13 +14,8 @@ returns-in-Some t c =
     let inner = c.in-Some.inner in
     let plain : eqb (row_of c.args.right).kind assign ≡ true = eq-eqb _ _ (sym c.in-Assign.ensures) in
     moves_as c.args.self.now c.visit_exports_right_expr.new.self c.visit_exports_right_expr.result _ _
-    (ap (λ S. visit_exports_right_expr S (here inner).row (here inner).kids) (ap tree_text c.in-Some.ensures.tree) ∙ sym (handed_on T (row_of c.args.right) (here c.args.right).kids (here inner) plain c.in-Some.ensures.is))
+    (ap (λ S. visit_exports_right_expr S (here inner).row (here inner).kids) (ap tree_text c.in-Some.ensures.finds.tree) ∙ sym (handed_on T (row_of c.args.right) (here c.args.right).kids (here inner) plain c.in-Some.ensures.finds.is))
     c.visit_exports_right_expr.ensures
-
-pub returns-in-None : goal.returns-in-None
-returns-in-None t c =
-    let plain : eqb (row_of c.args.right).kind assign ≡ true = eq-eqb _ _ (sym c.in-Assign.ensures) in
-    stays c.args.self.now _ (not_handed_on (section c.args.right) (row_of c.args.right) (here c.args.right).kids plain c.in-None.ensures.is)
 
 pub returns-in_default : goal.returns-in_default
 returns-in_default t c =

@@ -1,10 +1,10 @@
-use Rattle.std.proofs.Common.{◌≡◌, [], sym, refl, ap, ◌∙◌, rules, tests}
+use Rattle.std.proofs.Common.{◌≡◌, sym, refl, ap, ◌∙◌}
 use Rattle.kinds.specs.Kinds.{call}
 use Rattle.tree.specs.Children.{row_of}
 use Rattle.cjs_law.specs.Events.{events, once, visit_call_expr}
 use Rattle.cjs_rules.specs.Nodes.{here, section}
 use Rattle.cjs_parse.specs.Moving.{bound_by}
-use Rattle.cjs_parse.proofs.Moving.{moves_as, stays}
+use Rattle.cjs_parse.proofs.Moving.{moves_as}
 use Rattle.cjs_parse.proofs.walk.Walk.visit.Goals as goal
 
 pub returns-in-Call : goal.returns-in-Call
@@ -16,13 +16,3 @@ returns-in-Call c =
     let is : events T b (row_of c.args.node) kids ≡ once (visit_call_expr T b kids) = rw calls refl in
     let event : c.visit_call_expr-event.result ≡ visit_call_expr T b kids = c.visit_call_expr-event.ensures ∙ ap (λ b. visit_call_expr T b kids) c.bindings.ensures in
     moves_as c.args.self.now c.perform.new.self c.perform.result _ _ (ap once event ∙ sym is) c.perform.ensures
-
-pub returns-in_default : goal.returns-in_default
-returns-in_default c =
-    let none : events (section c.args.node) (bound_by c.args.self.now) (row_of c.args.node) (here c.args.node).kids ≡ [] = search (rules, tests) in
-    stays c.args.self.now _ none
-
-pub returns-in_default-2 : goal.returns-in_default-2
-returns-in_default-2 c =
-    let none : events (section c.args.node) (bound_by c.args.self.now) (row_of c.args.node) (here c.args.node).kids ≡ [] = search (rules, tests) in
-    stays c.args.self.now _ none
