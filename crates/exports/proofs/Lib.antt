@@ -1,3 +1,4 @@
+mod Analysis
 mod Appending
 mod Onward
 mod Progress

@@ -1,5 +1,5 @@
 -- A loop that appends: what it comes to as a whole is what it comes to from here on.
-use Rattle.std.proofs.Common.{◌≡◌, ℕ, ◌-◌, true, List, [], ◌++◌, length, is_err, Ok, Err, Result, ap, ◌∙◌, subst, sym}
+use Rattle.std.proofs.Common.{◌≡◌, ℕ, ◌-◌, true, List, [], ◌++◌, length, is_err, Ok, Err, Result, ap, ◌∙◌, subst}
 use Rattle.table.specs.declared.table.Full.{Full}
 use Rattle.text.specs.declared.place.Place.{Place}
 use Rattle.tree.specs.Children.{Comes, left, row_of}
@@ -9,7 +9,7 @@ use Rattle.tree.specs.Forest.{Forest, children, node}
 use Rattle.tree.specs.Subject.{tree_rows}
 use Rattle.exports.specs.declared.append.PlaceList.{PlaceList}
 use Rattle.exports.specs.Append.{Lists}
-use Rattle.exports.proofs.Appending.{nothing_listed, more_listed, cut_off}
+use Rattle.exports.proofs.Appending.{cut_off, more_listed, none_listed}
 
 -- a bound on the rows under a node
 abbrev pub ahead : Node → ℕ
@@ -32,4 +32,4 @@ module _ (f : Forest → List Place) (all ys : List Place) (s t u : PlaceList) (
   stop e r a err = here.on r u (cut_off ys (f (left after)) t u e r a err)
 
 pub done : (all rest : List Place) (s t : PlaceList) → rest ≡ [] → Onward all rest s t → Lists all s (Ok tt) t
-done all rest s t e o = o.on (Ok tt) t (subst (λ l. Lists l t (Ok tt) t) (sym e) (nothing_listed t))
+done all rest s t e o = o.on (Ok tt) t (none_listed rest t e)

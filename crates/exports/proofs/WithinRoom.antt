@@ -169,8 +169,8 @@ module _ (room : Room) where
             (⊎_elim (λ lt. absurd (w.full (v.before c w.child lt))) (λ lt. absurd (v.full (w.before d v.child lt))))
             (cases_order c d)
 
-pub listed_whole_or_refused : ListedWholeOrRefusedAtTheFirstChildWithoutRoom
-listed_whole_or_refused = record {
+pub whole_or_refused : ListedWholeOrRefusedAtTheFirstChildWithoutRoom
+whole_or_refused = record {
   accepted = λ room rs w. all_listed room [] [] (items rs) (from_fits room (items rs) w);
   only = only;
   refused = refused;

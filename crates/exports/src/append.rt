@@ -1,5 +1,4 @@
 //! Places at the end of a table, in the order in which they come.
-ghost use Rattle.std.specs.Prelude.{◌≡◌};
 ghost use Rattle.table.specs.Kinds.{no_place};
 ghost use Rattle.table.specs.Table.{Rest};
 
@@ -7,13 +6,14 @@ use table::{Full, OrderedTable};
 use text::Place;
 
 /// A table that places are appended to. The rows past its count are zero.
+// The order of its keys is not used: both analyses fill the same `FindingsTables`, whose lists are ordered tables.
 #[derive(Drop)]
 pub(crate) struct PlaceList<'a, 't> {
     pub(crate) table: &'a mut OrderedTable<'t, Place>,
     ghost ready: { Rest no_place table.now.len table.now.rows.now },
 }
 
-impl<'a, 't> PlaceList<'a, 't> {
+impl PlaceList<'_, '_> {
     ghost use Rattle.std.specs.Prelude.{[], ◌∷◌};
     ghost use Rattle.exports.specs.Append.{Lists, optional};
 
@@ -21,14 +21,7 @@ impl<'a, 't> PlaceList<'a, 't> {
     pub(crate) fn append(&mut self, place: Place) -> Result<(), Full>
         ensures { Lists (place ∷ []) self.old result self.new }
     {
-        let n = self.table.len;
-        if n == self.table.rows.len() {
-            return Err(Full);
-        }
-        // The count comes first, so that the rows past it stay zero at each write.
-        self.table.len = n + 1;
-        self.table.rows[n] = place;
-        Ok(())
+        self.table.push(place)
     }
 
     /// Appends the place, if there is one.

@@ -3,7 +3,7 @@ ghost use Rattle.std.specs.Prelude.{◌≡◌};
 ghost use Rattle.cjs_rules.specs.Nodes.{here, seen};
 ghost use Rattle.exports.specs.Append.{Lists};
 ghost use Rattle.exports.specs.Beneath.{Beneath};
-ghost use Rattle.exports.specs.BoundNames.{bound_in, bound_names, of_declarators, of_elements, of_properties, property_names};
+ghost use Rattle.exports.specs.BoundNames.{bound_in, bound_names, of_declarators, property_names};
 
 use crate::append::PlaceList;
 use kinds::kind::Kind;
@@ -11,15 +11,14 @@ use table::Full;
 use tree::Node;
 
 /// The pattern that a property of an object pattern binds.
+#[tactic(auto, using(cjs_rules::proofs::FirstTwo::at_most_one))]
 fn property_pattern<'t, 'a>(property: Node<'t, 'a>) -> Option<Node<'t, 'a>>
     ensures names { bound_in (seen result) ≡ property_names (here property.entry) }
     ensures beneath { Beneath property.entry result }
 {
-    let mut parts = property.children();
-    let first = parts.next()?;
     match property.kind() {
-        Kind::KeyValuePat => parts.next(),
-        Kind::AssignPatProp | Kind::RestPat => Some(first),
+        Kind::KeyValuePat => property.first_two().map(|(_, value)| value),
+        Kind::AssignPatProp | Kind::RestPat => property.children().next(),
         _ => None,
     }
 }

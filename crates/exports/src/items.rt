@@ -1,19 +1,17 @@
 //! What the items of a module export and re-export.
-ghost use Rattle.std.specs.Prelude.{◌≡◌, []};
+ghost use Rattle.std.specs.Prelude.{◌≡◌};
 ghost use Rattle.cjs_rules.specs.Nodes.{child, here, seen};
-ghost use Rattle.exports.specs.Append.{Appended, ItemListed, Lists, Ready, optional};
+ghost use Rattle.exports.specs.Append.{ItemListed, ItemsListed, Lists, Ready, optional};
 ghost use Rattle.exports.specs.Beyond.{declaration_names, default_names, item_names, specifier_names};
 ghost use Rattle.exports.specs.ExportedNames.{each, identified, if_any, named, star_of};
-ghost use Rattle.exports.specs.Listing.{listed};
-ghost use Rattle.findings.specs.Tables.{Analysed, Hold, SameLenders, nothing, room_of};
 ghost use Rattle.tree.specs.Forest.{children};
 ghost use Rattle.tree.specs.Subject.{tree_module, tree_rows};
 
 use crate::append::PlaceList;
 use crate::find_pat_ids::find_declarator_ids;
 use cjs_rules::returned::last_child;
+use findings::FindingsFault;
 use findings::parsed_source::ProgramRef;
-use findings::{FindingsFault, FindingsTables};
 use kinds::kind::Kind;
 use table::{Full, OrderedTable};
 use text::Place;
@@ -93,53 +91,35 @@ fn export_names(item: Node, names: &mut PlaceList) -> Result<(), Full>
     }
 }
 
-/// Appends to a table the names that an item exports. The table is a parameter: through a field of the tables the check would lose it.
-fn list_names(item: Node, table: &mut OrderedTable<Place>) -> Result<(), Full>
-    requires { Ready table.old }
-    ensures { Appended (item_names (here item.entry)) table.old result table.new }
-{
-    export_names(item, &mut PlaceList { table })
-}
-
-/// Appends to a table the text by which `export *` names the module that it re-exports.
-fn list_star(item: Node, table: &mut OrderedTable<Place>) -> Result<(), Full>
-    requires { Ready table.old }
-    ensures { Appended (if_any named (child 0 (here item.entry).kids)) table.old result table.new }
-{
-    PlaceList { table }.append_if_any(named(item.children().next()))
-}
-
 /// Lists what an item exports and re-exports: `export *` re-exports a module, any other item exports names.
-fn list_item(item: Node, tables: &mut FindingsTables) -> Result<(), Full>
-    requires exports { Ready tables.old.exports }
-    requires reexports { Ready tables.old.reexports }
-    ensures { ItemListed (item_names (here item.entry)) (star_of (here item.entry)) tables.old result tables.new }
+fn list_item(item: Node, names: &mut PlaceList, stars: &mut PlaceList) -> Result<(), Full>
+    ensures { ItemListed (item_names (here item.entry)) (star_of (here item.entry)) names.old stars.old result names.new stars.new }
 {
     if item.is(Kind::ExportAll) {
-        list_star(item, &mut tables.reexports)
+        stars.append_if_any(named(item.children().next()))
     } else {
-        list_names(item, &mut tables.exports)
+        export_names(item, names)
     }
 }
 
-/// Lists what the items of a module export and re-export, in tables that hold nothing.
+/// Appends to two tables what the items of a module export and re-export, up to an item for which there is no room.
+// `Ready` is asked here alone. The tables are parameters: the check loses what a list writes into a field of
+// `FindingsTables`, whether a literal, a function or a pattern borrows that field.
 pub(crate) fn list_items(
     program: ProgramRef,
-    tables: &mut FindingsTables,
+    exports: &mut OrderedTable<Place>,
+    reexports: &mut OrderedTable<Place>,
 ) -> Result<(), FindingsFault>
-    requires { Hold (room_of tables.old) nothing tables.old }
-    ensures analysed { Analysed (tree_module program.entry.tree.now) (room_of tables.old) (listed (room_of tables.old) [] [] (children (tree_rows program.entry.tree.now) 0)) result tables.new }
-    ensures lenders { SameLenders tables.old tables.new }
+    requires exports { Ready exports.old }
+    requires reexports { Ready reexports.old }
+    ensures { ItemsListed (tree_module program.entry.tree.now) (children (tree_rows program.entry.tree.now) 0) exports.old reexports.old result exports.new reexports.new }
 {
+    let module = program.tree().module();
+    let mut names = PlaceList { table: exports };
+    let mut stars = PlaceList { table: reexports };
     for item in program.root().children() {
-        // No `map_err`: with the refusal the tables are cleared.
-        if let Err(Full) = list_item(item, tables) {
-            tables.clear();
-            return Err(FindingsFault::Full {
-                module: program.tree().module(),
-                row: item.row(),
-            });
-        }
+        let row = item.row();
+        list_item(item, &mut names, &mut stars).map_err(|_| FindingsFault::Full { module, row })?;
     }
     Ok(())
 }

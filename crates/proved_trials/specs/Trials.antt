@@ -5,7 +5,8 @@ use Rattle.text.specs.declared.place.Place.{Place}
 use Rattle.tree.specs.Block.{rows, text}
 use Rattle.findings.specs.Tables.{Found, Room}
 use Rattle.cjs_parse.specs.Outcome.{cjs_outcome}
-use Rattle.proved_trials.specs.Blocks.{assigned, assigned_then_unsafe, bound_later, defined, defined_by_another, not_replaced, replaced}
+use Rattle.exports.specs.Listing.{es_outcome}
+use Rattle.proved_trials.specs.Blocks.{assigned, assigned_then_unsafe, bound_later, defined, defined_by_another, not_replaced, pattern, replaced}
 
 -- tables of four rows each
 abbrev pub four : Room
@@ -23,6 +24,9 @@ found bindings exports reexports unsafes = Ok (record { bindings = bindings; exp
 abbrev pub cjs : List ℕ → Result Found ℕ
 cjs block = cjs_outcome four (text block) (rows block)
 
+abbrev pub es : List ℕ → Result Found ℕ
+es block = es_outcome four (rows block)
+
 pub record TrialsStand : Type 0 where
   -- a is exported; marked unsafe after it, it is not
   pub assigned : cjs assigned ≡ found [] (place 7 1 ∷ []) [] []
@@ -35,3 +39,5 @@ pub record TrialsStand : Type 0 where
   pub not_replaced : cjs not_replaced ≡ found [] [] (place 15 1 ∷ []) []
   -- a is bound before the call is come to
   pub bound_later : cjs bound_later ≡ found (binding (place 9 1) (place 17 1) ∷ []) [] (place 17 1 ∷ []) []
+  -- a and c are exported, and the key b is not
+  pub pattern_exported : es pattern ≡ found [] (place 0 1 ∷ place 2 1 ∷ []) [] []

@@ -14,4 +14,5 @@ returns c =
       replaced = refl;
       not_replaced = refl;
       bound_later = refl;
+      pattern_exported = refl;
     }

@@ -1,3 +1,4 @@
+use Rattle.cjs_rules.specs.Nodes.{here}
 use Rattle.tree.specs.Children.{left}
 use Rattle.exports.specs.BoundNames.{of_declarators}
 use Rattle.exports.proofs.Onward.{Onward}
@@ -7,4 +8,4 @@ abbrev pub invariant-loop-declarator : goal.invariant-loop-declarator
 invariant-loop-declarator l =
     (goal.iterator-loop-declarator).can_next l.declarator-iterator
     × (goal.iterator-loop-declarator).is_finite l.declarator-iterator
-    × Onward (of_declarators (left l.initial.declarator-iterator)) (of_declarators (left l.declarator-iterator)) l.initial.names l.names
+    × Onward (of_declarators (here l.fn.declaration).kids) (of_declarators (left l.declarator-iterator)) l.initial.names l.names

@@ -1,3 +1,4 @@
+use Rattle.cjs_rules.specs.Nodes.{here}
 use Rattle.tree.specs.Children.{left}
 use Rattle.exports.specs.Beyond.{specifier_names}
 use Rattle.exports.specs.ExportedNames.{each}
@@ -8,4 +9,4 @@ abbrev pub invariant-loop-specifier : goal.invariant-loop-specifier
 invariant-loop-specifier l =
     (goal.iterator-loop-specifier).can_next l.specifier-iterator
     × (goal.iterator-loop-specifier).is_finite l.specifier-iterator
-    × Onward (each specifier_names (left l.initial.specifier-iterator)) (each specifier_names (left l.specifier-iterator)) l.initial.names l.names
+    × Onward (each specifier_names (here l.fn.item).kids) (each specifier_names (left l.specifier-iterator)) l.initial.names l.names
