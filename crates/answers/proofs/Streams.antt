@@ -5,11 +5,15 @@ use Rattle.std.specs.Prelude.{Option, Some, None, Result, Ok, Err, IfSome, OnOk,
 use Rattle.std.specs.Io.KnownBytes.{Appends, Consumes, IsAtEnd}
 use Rattle.std.proofs.KnownBytes.{Appends-trans, Consumes-trans}
 use Rattle.text.specs.Number.{le32}
-use Rattle.answers.specs.Answers.{AnswerOf, answer_line}
+use Rattle.std.specs.Fmt.{◌++?◌}
+use Rattle.fault.specs.Line.{line_shown, line_text}
+use Rattle.fault.specs.declared.Fault.{Fault}
+use Rattle.answers.specs.Answers.{AnswerOf, answer_line, found_line}
 use Rattle.answers.specs.Stream.{WritesLines, CutStream, EndsAfter, LinesOf, NextLength, NextLine, Takes, line_end, sized}
 use Rattle.answers.specs.Stream.CutStream.{in_length, in_block}
 use Rattle.answers.specs.Stream.LinesOf.{block}
-use Rattle.answers.specs.declared.answer.AnswerLine.{AnswerLine}
+use Rattle.fault.specs.declared.Line.{Line}
+use Rattle.answers.specs.declared.answer.Found.{Found}
 use Rattle.answers.specs.declared.stream.CutShort.{CutShort as CutShortRecord}
 use Rattle.answers.specs.declared.stream.Length.{Length}
 use Rattle.answers.specs.declared.stream.Length.TheVariants.{Fits, TooLong}
@@ -51,14 +55,14 @@ pub number_so : (n room : ℕ) (next : Length) → next ≡ sized n room → num
 number_so n room next e = ap number_of e ∙ sized-number n room
 
 -- a reader that ended before the next block's length, or inside it
-pub NextLine-ended : (room : ℕ) (a b : Option (List ℕ)) (e : ReadError) (r : Result (Option AnswerLine) ReadError) → NextLength room a b (Err e)
+pub NextLine-ended : (room : ℕ) (a b : Option (List ℕ)) (e : ReadError) (r : Result (Option (Line Found)) ReadError) → NextLength room a b (Err e)
     → IsErrAnd r (λ f. f ≡ e) → NextLine a b r
 NextLine-ended room a b e (Ok u) took is = absurd is
 NextLine-ended room a b (CutShort k) (Err f) (head, some, short, end) is = subst (λ x. NextLine a b (Err x)) (sym is) (head, in_length head some short, end)
 NextLine-ended room a b (Io k) (Err f) u is = subst (λ x. NextLine a b (Err x)) (sym is) tt
 
 -- a reader that ended inside the next block
-pub NextLine-cut : (a b c : Option (List ℕ)) (head : List ℕ) (n : ℕ) (e : ReadError) (r : Result (Option AnswerLine) ReadError) → Consumes a b head → length head ≡ 4
+pub NextLine-cut : (a b c : Option (List ℕ)) (head : List ℕ) (n : ℕ) (e : ReadError) (r : Result (Option (Line Found)) ReadError) → Consumes a b head → length head ≡ 4
     → n ≡ le32 head 0 → Takes n b c (Err e) → IsErrAnd r (λ f. f ≡ e) → NextLine a c r
 NextLine-cut a b c head n e (Ok u) first four long took is = absurd is
 NextLine-cut a b c head n (CutShort k) (Err f) first four long (part, short, (gave, end)) is =
@@ -77,8 +81,12 @@ WritesLines-ended (Some x) (Some y) (Some z) o p q taken written more chunk P ga
     let whole : x ≡ taken ++ more = gave ∙ ap (λ l. taken ++ l) left in
     λ _. (written ++ chunk, subst (λ l. LinesOf l (written ++ chunk)) (sym whole) (so more chunk lines), Appends-trans o p q written chunk put last)
 
+-- the text that is written of a line is the line's
+pub line_written : (answer : Result Found Fault) (a b : Option (List ℕ)) → IfSome (line_text (λ x. Some (found_line x)) answer ++? Some line_end) (Appends a b) → Appends a b (answer_line answer ++ line_end)
+line_written answer a b put = subst (λ t. IfSome (t ++? Some line_end) (Appends a b)) (line_shown found_line answer) put
+
 -- the lines so far, and one more
-pub lines_onward : (taken written head blk : List ℕ) (line : AnswerLine) → ((rest lines : List ℕ) → LinesOf rest lines → LinesOf (taken ++ rest) (written ++ lines))
+pub lines_onward : (taken written head blk : List ℕ) (line : Line Found) → ((rest lines : List ℕ) → LinesOf rest lines → LinesOf (taken ++ rest) (written ++ lines))
     → length head ≡ 4 → length blk ≡ le32 head 0 → AnswerOf 0 blk line.0 → (rest lines : List ℕ) → LinesOf rest lines
     → LinesOf ((taken ++ (head ++ blk)) ++ rest) ((written ++ (answer_line line.0 ++ line_end)) ++ lines)
 lines_onward taken written head blk line so four long answers rest lines h =
@@ -103,13 +111,13 @@ pub too_long_above : (n room k : ℕ) → TooLong k ≡ sized n room → room < 
 too_long_above n room k e = subst (λ m. room < m) (sym (number_so n room (TooLong k) e)) (above n room k (nat_le n room) refl e)
 
 -- the line that follows in a stream
-abbrev pub FollowsLine : Option (List ℕ) → Option (List ℕ) → AnswerLine → Type 0
+abbrev pub FollowsLine : Option (List ℕ) → Option (List ℕ) → Line Found → Type 0
 FollowsLine a b line = (head blk : List ℕ) × (length head ≡ 4) × (length blk ≡ le32 head 0) × AnswerOf 0 blk line.0 × Consumes a b (head ++ blk)
 
-pub next_line_some : (a b : Option (List ℕ)) (o : Option AnswerLine) (line : AnswerLine) → o ≡ Some line → NextLine a b (Ok o) → FollowsLine a b line
+pub next_line_some : (a b : Option (List ℕ)) (o : Option (Line Found)) (line : Line Found) → o ≡ Some line → NextLine a b (Ok o) → FollowsLine a b line
 next_line_some a b o line e took = subst (λ x. NextLine a b (Ok x)) e took
 
-pub next_line_none : (a b : Option (List ℕ)) (o : Option AnswerLine) → o ≡ None → NextLine a b (Ok o) → IsAtEnd a
+pub next_line_none : (a b : Option (List ℕ)) (o : Option (Line Found)) → o ≡ None → NextLine a b (Ok o) → IsAtEnd a
 next_line_none a b o e took = subst (λ x. NextLine a b (Ok x)) e took
 
 pub next_line_cut : (a b : Option (List ℕ)) (e : ReadError) (k : CutShortRecord) → e ≡ CutShort k → NextLine a b (Err e) → (xs : List ℕ) × CutStream xs × EndsAfter a b xs

@@ -1,6 +1,6 @@
 -- The answer for a tree block, and its line.
-use Rattle.std.specs.Prelude.{◌≡◌, ℕ, cond, List, Some, Ok, Err, codes, Result}
-use Rattle.fault.specs.Line.{fault_line}
+use Rattle.std.specs.Prelude.{◌≡◌, ℕ, List, ◌++◌, Some, Ok, Err, codes, Result}
+use Rattle.fault.specs.Line.{digit, found_or_fault}
 use Rattle.fault.specs.declared.Fault.{Fault}
 use Rattle.findings.specs.Script.{is_script}
 use Rattle.tree.specs.Block.{rows}
@@ -14,9 +14,8 @@ AnswerOf m block (Ok found) = Lawful block × (found.is_script ≡ is_script (ro
 
 -- the script answer, and a dash for each list that is not made yet
 abbrev pub found_line : Found → List ℕ
-found_line found = cond found.is_script (codes "1 | - | -") (codes "0 | - | -")
+found_line found = digit found.is_script ++ codes " | - | -"
 
 -- the line of an answer: the fault's, or that of what was found
 abbrev pub answer_line : Result Found Fault → List ℕ
-answer_line (Err f) = fault_line f
-answer_line (Ok found) = found_line found
+answer_line answer = found_or_fault found_line answer

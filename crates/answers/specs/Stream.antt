@@ -2,9 +2,9 @@
 use Rattle.std.specs.Prelude.{◌≡◌, ℕ, ◌≤◌, ◌<◌, cond, List, [], ◌++◌, length, ◌==◌, nat_le, nat_lt, Option, Some, None, Result, Ok, Err, codes}
 use Rattle.std.specs.Io.KnownBytes.{Appends, Consumes, IsAtEnd}
 use Rattle.fault.specs.declared.Fault.{Fault}
+use Rattle.fault.specs.declared.Line.{Line}
 use Rattle.text.specs.Number.{le32}
 use Rattle.answers.specs.Answers.{AnswerOf, answer_line}
-use Rattle.answers.specs.declared.answer.AnswerLine.{AnswerLine}
 use Rattle.answers.specs.declared.answer.Found.{Found}
 use Rattle.answers.specs.declared.stream.CutShort.{CutShort}
 use Rattle.answers.specs.declared.stream.Length.{Length}
@@ -68,7 +68,7 @@ NextLength room old new (Err (Cut c)) = (head : List ℕ) × (0 < length head) �
 NextLength room old new (Err (Io e)) = Unit {0}
 
 -- a reader gave the next block, which has this line, or ended before it or inside it
-abbrev pub NextLine : Option (List ℕ) → Option (List ℕ) → Result (Option AnswerLine) ReadError → Type 0
+abbrev pub NextLine : Option (List ℕ) → Option (List ℕ) → Result (Option (Line Found)) ReadError → Type 0
 NextLine old new (Ok None) = IsAtEnd old
 NextLine old new (Ok (Some line)) =
     (head block : List ℕ) × (length head ≡ 4) × (length block ≡ le32 head 0) × AnswerOf 0 block line.0 × Consumes old new (head ++ block)

@@ -1,6 +1,6 @@
 //! The answer for one block.
 ghost use Rattle.std.specs.Prelude.{ℕ, ◌<◌, List, length, Some, Err};
-ghost use Rattle.answers.specs.Answers.{AnswerOf, answer_line, found_line};
+ghost use Rattle.answers.specs.Answers.{AnswerOf, found_line};
 
 use fault::Fault;
 use findings::parsed_source::ProgramRef;
@@ -12,10 +12,6 @@ use tree::{Tree, TreeFault};
 pub struct Found {
     pub is_script: bool,
 }
-
-/// The line of an answer: what was found, or the fault that the block is refused for.
-#[derive(Clone, Copy, PartialEq, Eq, Debug)]
-pub struct AnswerLine(pub Result<Found, Fault>);
 
 /// The answer for a block of a module: what was found in its tree, or its refusal.
 pub fn answer_for(module: u32, block: &[u8]) -> Result<Found, Fault>
@@ -31,29 +27,16 @@ pub fn answer_for(module: u32, block: &[u8]) -> Result<Found, Fault>
 pub fn answer_too_long(module: u32) -> Fault
     ensures { (block : List ℕ) → 4194304 < length block → AnswerOf «module» block (Err result) }
 {
-    Fault::from(TreeFault::Layout { module })
+    // One conversion here and in `block_lines`, of which neither is below the other; the promise is that of `too_long`.
+    Fault::from(TreeFault::too_long(module))
 }
 
 /// The script answer, and a dash for each list that is not made yet.
 impl fmt::Display for Found {
     ghost output = { λ x. Some (found_line x) };
 
+    #[tactic(auto, using(fault::proofs::Shown::digit_shown))]
     fn fmt<W: fmt::Write>(&self, f: &mut fmt::Formatter<W>) -> fmt::Result {
-        f.write_str(if self.is_script {
-            "1 | - | -"
-        } else {
-            "0 | - | -"
-        })
-    }
-}
-
-impl fmt::Display for AnswerLine {
-    ghost output = { λ x. Some (answer_line x.0) };
-
-    fn fmt<W: fmt::Write>(&self, f: &mut fmt::Formatter<W>) -> fmt::Result {
-        match self.0 {
-            Ok(found) => write!(f, "{found}"),
-            Err(fault) => write!(f, "{fault}"),
-        }
+        write!(f, "{} | - | -", u8::from(self.is_script))
     }
 }

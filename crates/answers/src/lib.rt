@@ -5,6 +5,8 @@ mod answer;
 mod report;
 mod stream;
 
-pub use answer::{AnswerLine, Found, answer_for, answer_too_long};
+pub use answer::{Found, answer_for, answer_too_long};
+pub use fault::Line;
 pub use report::{Report, ReportText, report_for};
-pub use stream::{CutShort, LONGEST_BLOCK, Length, announced, answer_stream, answer_stream_in};
+pub use stream::{CutShort, Length, announced, answer_stream, answer_stream_in};
+pub use tree::LONGEST_BLOCK;

@@ -44,12 +44,12 @@ impl fmt::Display for Report {
     ghost output = { λ x. Some (held_text x) };
 
     fn fmt<W: fmt::Write>(&self, f: &mut fmt::Formatter<W>) -> fmt::Result {
-        let rows = self.rows;
-        let kind = self.kind;
-        let script = yes_or_no(self.is_script);
         write!(
             f,
-            "a lawful tree block\nrows: {rows}\nprogram: {kind}\ntreated as a script: {script}"
+            "a lawful tree block\nrows: {}\nprogram: {}\ntreated as a script: {}",
+            self.rows,
+            self.kind,
+            yes_or_no(self.is_script)
         )
     }
 }

@@ -4,17 +4,18 @@ ghost use Rattle.std.specs.Io.KnownBytes.{Consumes, IsAtEnd};
 ghost use Rattle.answers.specs.Stream.{NextLength, NextLine, Takes, Within, WritesLines, announced_by, kept_of, sized};
 ghost use Rattle.answers.specs.declared.stream.ReadError.TheVariants.{CutShort, Io};
 
-use crate::answer::{AnswerLine, answer_for, answer_too_long};
+use crate::answer::{Found, answer_for, answer_too_long};
+use fault::Line;
 use std::alloc::Global;
 use std::error::Error;
 use std::io::{Read, Write};
 use std::{fmt, io};
 use text::read_le32;
-
-/// Longer blocks are refused whatever they hold, so they are read past and not kept.
-pub const LONGEST_BLOCK: usize = 4_194_304;
+use tree::LONGEST_BLOCK;
 
 /// The length of a block: of one that fits into the room there is, or of one that is too long for it.
+// No `Result`, since neither is a failure; nor an `Option` of a part of the buffer, since a block that is too long is
+// read past by its length.
 #[derive(Clone, Copy, PartialEq, Eq, Debug)]
 pub enum Length {
     Fits(usize),
@@ -32,6 +33,7 @@ enum ReadError {
     Io(io::Error),
 }
 
+/// The stream ended too early.
 impl From<CutShort> for ReadError {
     ghost from_gives = { λ cut error. error ≡ CutShort cut };
 
@@ -40,6 +42,7 @@ impl From<CutShort> for ReadError {
     }
 }
 
+/// The input failed.
 impl From<io::Error> for ReadError {
     ghost from_gives = { λ failure error. error ≡ Io failure };
 
@@ -99,7 +102,7 @@ fn fill<R: Read>(input: &mut R, buffer: &mut [u8]) -> io::Result<usize>
     ensures end { IfOk result (λ n. n < length buffer.old → IsAtEnd (R.remaining input.new)) }
 {
     let mut done = 0;
-    // By hand: std's `copy` says nothing of what an input behind a `take` has left, nor `read_exact` what one that ended had.
+    // By hand: of an input that ends, std's `copy` from a `take` says not what is left, nor `read_exact` what it had.
     while done < buffer.len() {
         let got = input.read(&mut buffer[done..])?;
         if got == 0 {
@@ -120,7 +123,9 @@ fn fill_whole<R: Read>(input: &mut R, buffer: &mut [u8]) -> Result<(), ReadError
     Ok(())
 }
 
-/// Reads past so many bytes of the input.
+/// Reads past so many bytes of the input: those of a block that is too long are not kept.
+// No struct of input and buffer: tried, and each use lends both fields again, as the check covers no part of an array
+// behind a field.
 fn pass_over<R: Read>(
     input: &mut R,
     buffer: &mut [u8; LONGEST_BLOCK],
@@ -148,7 +153,7 @@ fn next_length<R: Read>(input: &mut R, room: usize) -> Result<Option<Length>, Re
 fn next_line<R: Read>(
     input: &mut R,
     buffer: &mut [u8; LONGEST_BLOCK],
-) -> Result<Option<AnswerLine>, ReadError>
+) -> Result<Option<Line<Found>>, ReadError>
     ensures { NextLine (R.remaining input.old) (R.remaining input.new) result }
 {
     let Some(length) = next_length(input, buffer.len())? else {
@@ -165,7 +170,7 @@ fn next_line<R: Read>(
             Err(answer_too_long(0))
         }
     };
-    Ok(Some(AnswerLine(answer)))
+    Ok(Some(Line(answer)))
 }
 
 /// Answers each block of the input by a line on the output. A stream that ends inside a length or a block gets `short`.

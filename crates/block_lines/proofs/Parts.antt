@@ -3,15 +3,15 @@ use Rattle.std.proofs.Common.{◌≡◌, ℕ, ◌-◌, Bool, List, ◌++◌, len
 use Rattle.std.specs.Result.{result_and}
 use Rattle.std.proofs.lemmas.List.{take_all, take-append-le}
 use Rattle.table.specs.Table.{Left}
-use Rattle.fault.specs.Line.{fault_line}
+use Rattle.fault.specs.Line.{digit, fault_line}
 use Rattle.fault.specs.declared.Fault.{Fault}
-use Rattle.findings.specs.Tables.{Analysed, Found, Hold, Room, answered, describe, kept}
+use Rattle.findings.specs.Tables.{Analysed, Found, Hold, Room, answered, describe, kept, room_of}
 use Rattle.findings.specs.declared.refusal.FindingsFault.{FindingsFault}
 use Rattle.findings.specs.declared.refusal.FindingsFault.TheVariants.{Full}
 use Rattle.findings.specs.declared.tables.FindingsTables.{FindingsTables}
 use Rattle.lines.specs.Places.{lists_text}
 use Rattle.lines.specs.declared.places.Lists.{Lists}
-use Rattle.block_lines.specs.Lines.{ListsOf, NamesOf, PartOf, both_text, digit, names_of, names_text, outcome_text, part_text}
+use Rattle.block_lines.specs.Lines.{ListsOf, NamesOf, PartOf, both_text, names_of, names_text, outcome_text, part_text}
 use Rattle.block_lines.specs.declared.line.Names.{Names}
 
 pub left_take : {X : Type 0} (z : X) (cap : ℕ) (ys : List X) (n : ℕ) (rows : List X) → Left z cap ys n rows → take n rows ≡ ys
@@ -28,11 +28,11 @@ lists_text_lem room f t l h o =
     ((o.reexports ∙ left_take _ _ _ _ _ h.reexports) i)
     ((o.unsafes ∙ left_take _ _ _ _ _ h.unsafes) i)
 
-pub part_text_lem : (m : ℕ) (room : Room) (o : Result Found ℕ) (a : Result (Unit {0}) FindingsFault) (t : FindingsTables) (p : Result Lists Fault) → Analysed m room o a t → PartOf a t p → part_text p ≡ outcome_text m o
-part_text_lem m room o a t p d q = at o p d.tables (subst (λ r. PartOf r t p) d.answer q)
+pub part_text_lem : (m : ℕ) (s : FindingsTables) (o : Result Found ℕ) (a : Result (Unit {0}) FindingsFault) (t : FindingsTables) (p : Result Lists Fault) → Analysed m s o a t → PartOf a t p → part_text p ≡ outcome_text m o
+part_text_lem m s o a t p d q = at o p d.tables.holds (subst (λ r. PartOf r t p) d.answer q)
   where
-    at : (o : Result Found ℕ) (p : Result Lists Fault) → Hold room (kept o) t → PartOf (answered m o) t p → part_text p ≡ outcome_text m o
-    at (Ok f) (Ok l) h q = lists_text_lem room f t l h q
+    at : (o : Result Found ℕ) (p : Result Lists Fault) → Hold (room_of s) (kept o) t → PartOf (answered m o) t p → part_text p ≡ outcome_text m o
+    at (Ok f) (Ok l) h q = lists_text_lem (room_of s) f t l h q
     at (Ok f) (Err g) h q = absurd q
     at (Err j) (Ok l) h q = absurd q
     at (Err j) (Err g) h q = ap fault_line q

@@ -1,6 +1,7 @@
 -- The lines that the analyses and the refusals come to.
-use Rattle.std.proofs.Common.{◌≡◌, ◌<◌, ℕ, List, ◌++◌, Some, Ok, Err, codes, Result, length, arith, sym, ◌∙◌, subst}
+use Rattle.std.proofs.Common.{◌≡◌, ℕ, List, ◌++◌, Ok, Err, codes, Result, sym, ◌∙◌, subst}
 use Rattle.std.specs.Result.{IsErrAnd, result_and}
+use Rattle.fault.specs.Line.{digit}
 use Rattle.fault.specs.declared.Fault.{Fault}
 use Rattle.findings.specs.Script.{is_script}
 use Rattle.findings.specs.Tables.{room_of}
@@ -9,18 +10,15 @@ use Rattle.findings.specs.declared.refusal.FindingsFault.{FindingsFault}
 use Rattle.findings.specs.declared.tables.FindingsTables.{FindingsTables}
 use Rattle.lines.specs.declared.places.Lists.{Lists}
 use Rattle.tree.specs.Block.{rows, text}
-use Rattle.tree.specs.Verdict.{Verdict, bad_layout, describe, tree_fault}
+use Rattle.tree.specs.Verdict.{describe}
 use Rattle.tree.specs.declared.refusal.TreeFault.{TreeFault}
 use Rattle.block_lines.specs.Analyses.{Analysis, Refusal, cjs_of, es_of}
-use Rattle.block_lines.specs.Lines.{AnswersText, FindingsText, NamesOf, PartOf, answers_found, answers_text, digit, findings_found, findings_text, found, names_of, refused}
+use Rattle.block_lines.specs.Lines.{AnswersText, FindingsText, NamesOf, PartOf, answers_found, answers_text, findings_found, findings_text, found, names_of, refused}
 use Rattle.block_lines.specs.declared.analyses.Analyses.{Analyses}
 use Rattle.block_lines.specs.declared.line.Report.{Report}
 use Rattle.block_lines.specs.declared.line.Names.{Names}
 use Rattle.block_lines.proofs.Parts.{accepted_text, part_text_lem, refused_text}
 use Rattle.block_lines.proofs.Shown.{fault_shown}
-
-pub too_long : (m : ℕ) (f : Fault) → f ≡ tree_fault 1 m 0 → (block : List ℕ) → 4194304 < length block → Verdict m block (Some f)
-too_long m f e block long = subst (λ f. Verdict m block (Some f)) (sym e) (bad_layout (λ l. omega (arith, l.short_enough)))
 
 module _ (m : ℕ) (block : List ℕ) (s t : FindingsTables) (s' t' : FindingsTables) where
   pub findings_refused : (e : TreeFault) (r : Result (Report (Result Lists Fault)) Fault) → Refusal m block s t e s' t' → IsErrAnd r (λ f. f ≡ describe e) → FindingsText m (room_of s) (room_of t) block (findings_text r)
@@ -29,8 +27,8 @@ module _ (m : ℕ) (block : List ℕ) (s t : FindingsTables) (s' t' : FindingsTa
 
   pub findings_told : (a : Analyses) (x y : Result Lists Fault) → Analysis m block s t a s' t' → PartOf a.cjs s' x → PartOf a.es t' y → FindingsText m (room_of s) (room_of t) block (findings_found (record { is_script = a.is_script; cjs = x; es = y }))
   findings_told a x y analysis p q =
-      let cjs = part_text_lem m (room_of s) (cjs_of (room_of s) block) a.cjs s' x analysis.cjs_is p in
-      let es = part_text_lem m (room_of t) (es_of (room_of t) block) a.es t' y analysis.es_is q in
+      let cjs = part_text_lem m s (cjs_of (room_of s) block) a.cjs s' x analysis.cjs_is p in
+      let es = part_text_lem m t (es_of (room_of t) block) a.es t' y analysis.es_is q in
       subst (FindingsText m (room_of s) (room_of t) block)
       (sym (λ i. digit (analysis.script_is i) ++ (codes " | " ++ (cjs i ++ (codes " | " ++ es i)))))
       (found analysis.lawful)
@@ -51,7 +49,7 @@ module _ (m : ℕ) (block : List ℕ) (s t : FindingsTables) (s' t' : FindingsTa
       let cjs = subst (λ T. NamesOf T s' x) analysis.text_is p in
       let es = subst (λ T. NamesOf T t' y) analysis.text_is q in
       let accepted = is ∙ (λ i. result_and (analysis.cjs_is.answer i) (analysis.es_is.answer i)) in
-      let told = accepted_text m (text block) (is_script (rows block)) (room_of s) (room_of t) s' t' (cjs_of (room_of s) block) (es_of (room_of t) block) x y analysis.cjs_is.tables analysis.es_is.tables accepted cjs es in
+      let told = accepted_text m (text block) (is_script (rows block)) (room_of s) (room_of t) s' t' (cjs_of (room_of s) block) (es_of (room_of t) block) x y analysis.cjs_is.tables.holds analysis.es_is.tables.holds accepted cjs es in
       subst (AnswersText m (room_of s) (room_of t) block)
       (sym ((λ i. digit (analysis.script_is i) ++ (codes " " ++ (names_of x ++ (codes " " ++ names_of y)))) ∙ told))
       (found analysis.lawful)

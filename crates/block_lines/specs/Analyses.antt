@@ -22,8 +22,8 @@ pub record Analysis (m : ℕ) (block : List ℕ) (s t : FindingsTables) (a : Ana
   pub lawful : Lawful block
   pub text_is : a.text.now ≡ text block
   pub script_is : a.is_script ≡ is_script (rows block)
-  pub cjs_is : Analysed m (room_of s) (cjs_of (room_of s) block) a.cjs s'
-  pub es_is : Analysed m (room_of t) (es_of (room_of t) block) a.es t'
+  pub cjs_is : Analysed m s (cjs_of (room_of s) block) a.cjs s'
+  pub es_is : Analysed m t (es_of (room_of t) block) a.es t'
 
 -- or the block is refused as the verdict on it has it, and the tables are as they were
 pub record Refusal (m : ℕ) (block : List ℕ) (s t : FindingsTables) (f : TreeFault) (s' t' : FindingsTables) : Type 0 where

@@ -1,6 +1,6 @@
 -- The lines of a block: what `findings` and `answers` print for it.
-use Rattle.std.specs.Prelude.{◌≡◌, ℕ, Bool, cond, List, ◌++◌, take, Some, Ok, Err, codes, Option, Result, refl}
-use Rattle.fault.specs.Line.{fault_line}
+use Rattle.std.specs.Prelude.{◌≡◌, ℕ, Bool, List, ◌++◌, take, Some, Ok, Err, codes, Result}
+use Rattle.fault.specs.Line.{digit, fault_line, found_or_fault}
 use Rattle.fault.specs.declared.Fault.{Fault}
 use Rattle.findings.specs.Script.{is_script}
 use Rattle.findings.specs.Tables.{Found, Room, describe}
@@ -16,10 +16,6 @@ use Rattle.tree.specs.Verdict.{Lawful, Verdict}
 use Rattle.block_lines.specs.Analyses.{cjs_of, es_of}
 use Rattle.block_lines.specs.declared.line.Report.{Report}
 use Rattle.block_lines.specs.declared.line.Names.{Names}
-
--- 1 for a script, else 0
-abbrev pub digit : Bool → List ℕ
-digit script = cond script (codes "1") (codes "0")
 
 -- what one analysis comes to: its four lists, or its fault
 abbrev pub outcome_text : ℕ → Result Found ℕ → List ℕ
@@ -46,23 +42,7 @@ pub data AnswersText (m : ℕ) (cjs es : Room) (block : List ℕ) : List ℕ →
   refused : (f : Fault) → Verdict m block (Some f) → AnswersText m cjs es block (fault_line f)
   found : Lawful block → AnswersText m cjs es block (both_text m (text block) (is_script (rows block)) (cjs_of cjs block) (es_of es block))
 
--- the text of a line as it stands in memory
-
--- what is found by its text, or the fault by its line
-abbrev pub found_or_fault : {T : Type 0} → (T → List ℕ) → Result T Fault → List ℕ
-found_or_fault text (Ok x) = text x
-found_or_fault text (Err f) = fault_line f
-
--- the same where the text may be unknown
-abbrev pub line_text : {T : Type 0} → (T → Option (List ℕ)) → Result T Fault → Option (List ℕ)
-line_text text (Ok x) = text x
-line_text text (Err f) = Some (fault_line f)
-
--- it is the same wherever it is known
-pub line_shown : {T : Type 0} (text : T → List ℕ) (r : Result T Fault) → line_text (λ x. Some (text x)) r ≡ Some (found_or_fault text r)
-line_shown text (Ok x) = refl
-line_shown text (Err f) = refl
-
+-- lists as they stand in memory, by their text; and so the parts, the names and the lines that hold them
 abbrev pub lists_of : Lists → List ℕ
 lists_of l = lists_text l.bindings.now l.exports.now l.reexports.now l.unsafes.now
 

@@ -12,11 +12,11 @@ use lines::Lists;
 use tree::TreeFault;
 
 /// The refusal of a block of more than 4,194,304 bytes, whatever they are.
-#[tactic(auto, using(crate::proofs::Told::too_long))]
 pub fn refusal_of_too_long(module: u32) -> Fault
     ensures { (block : List ℕ) → 4194304 < length block → Verdict «module» block (Some result) }
 {
-    TreeFault::Layout { module }.into()
+    // One conversion here and in `answers`, of which neither is below the other; the promise is that of `too_long`.
+    Fault::from(TreeFault::too_long(module))
 }
 
 /// What an analysis comes to, whose tables these are.

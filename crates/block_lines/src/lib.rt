@@ -7,4 +7,5 @@ mod line;
 
 pub use analyses::{Analyses, analyse};
 pub use answer::refusal_of_too_long;
-pub use line::{AnswersLine, FindingsLine, Line, Names, Part, Report};
+pub use fault::Line;
+pub use line::{AnswersLine, FindingsLine, Names, Part, Report};

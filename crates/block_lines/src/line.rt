@@ -1,8 +1,8 @@
 //! The lines that the program prints for a block.
 ghost use Rattle.std.specs.Prelude.{Some};
-ghost use Rattle.block_lines.specs.Lines.{answers_found, findings_found, line_text, names_of};
+ghost use Rattle.block_lines.specs.Lines.{answers_found, findings_found, names_of};
 
-use fault::Fault;
+use fault::{Fault, Line};
 use lines::{ByTexts, Lists, LooseTexts};
 use std::fmt;
 use text::Place;
@@ -32,25 +32,11 @@ pub struct Names<'a> {
     pub reexports: &'a [Place],
 }
 
-/// The line of what is found, or of the fault that it is refused for.
-#[derive(Clone, Copy)]
-pub struct Line<T>(pub Result<T, Fault>);
-
-impl<T: fmt::Display> fmt::Display for Line<T> {
-    ghost output = { λ x. line_text T.output x.0 };
-
-    fn fmt<W: fmt::Write>(&self, f: &mut fmt::Formatter<W>) -> fmt::Result {
-        match &self.0 {
-            Ok(found) => found.fmt(f),
-            Err(fault) => fault.fmt(f),
-        }
-    }
-}
-
+/// The script answer and both parts, each its lists or its fault.
 impl fmt::Display for Report<Part<'_>> {
     ghost output = { λ x. Some (findings_found x) };
 
-    #[tactic(auto, using(crate::proofs::Shown::script_digit, crate::proofs::Shown::part_shown))]
+    #[tactic(auto, using(fault::proofs::Shown::digit_shown, crate::proofs::Shown::part_shown))]
     fn fmt<W: fmt::Write>(&self, f: &mut fmt::Formatter<W>) -> fmt::Result {
         let script = u8::from(self.is_script);
         let cjs = Line(self.cjs);
@@ -59,6 +45,7 @@ impl fmt::Display for Report<Part<'_>> {
     }
 }
 
+/// The exports, and the re-exports.
 impl fmt::Display for Names<'_> {
     ghost output = { λ x. Some (names_of x) };
 
@@ -76,10 +63,11 @@ impl fmt::Display for Names<'_> {
     }
 }
 
+/// The script answer and the names of both analyses.
 impl fmt::Display for Report<Names<'_>> {
     ghost output = { λ x. Some (answers_found x) };
 
-    #[tactic(auto, using(crate::proofs::Shown::script_digit))]
+    #[tactic(auto, using(fault::proofs::Shown::digit_shown))]
     fn fmt<W: fmt::Write>(&self, f: &mut fmt::Formatter<W>) -> fmt::Result {
         let script = u8::from(self.is_script);
         write!(f, "{script} {} {}", self.cjs, self.es)

@@ -3,14 +3,14 @@
 
 mod build;
 
-use answers::{AnswerLine, answer_for, answer_stream};
+use answers::{Line, answer_for, answer_stream};
 use build::{chain, flat, framed, padded};
 use std::io;
 
 /// Prints the answer for a block.
 fn show(rt: &HostRuntime, name: &str, block: &[u8]) -> io::Result<()> {
     let length = block.len();
-    let answer = AnswerLine(answer_for(0, block));
+    let answer = Line(answer_for(0, block));
     println!(rt; "{name} ({length} bytes): {answer}")
 }
 
@@ -22,6 +22,7 @@ fn show_stream(rt: &HostRuntime, name: &str, stream: &[u8]) -> io::Result<()> {
     answer_stream(rt.alloc(), &mut input, &mut output)
 }
 
+/// Blocks at each bound and one past it.
 fn blocks(rt: &HostRuntime) -> io::Result<()> {
     let heap = rt.alloc();
     show(rt, "65,536 rows", &flat(heap, 65_536)?)?;
@@ -33,6 +34,7 @@ fn blocks(rt: &HostRuntime) -> io::Result<()> {
     show(rt, "one byte more", &padded(heap, 4_194_305)?)
 }
 
+/// Streams that are empty, cut short, or hold a block that is too long.
 fn streams(rt: &HostRuntime) -> io::Result<()> {
     let heap = rt.alloc();
     show_stream(rt, "no block", b"")?;
@@ -59,6 +61,7 @@ fn streams(rt: &HostRuntime) -> io::Result<()> {
     )
 }
 
+/// Prints all of them.
 fn main(rt: HostRuntime) -> io::Result<()> {
     blocks(&rt)?;
     streams(&rt)

@@ -10,6 +10,7 @@ use std::fs::File;
 use std::io::{BufReader, BufWriter, Read, Write};
 use std::{env, io};
 
+/// What is said where the arguments name no command.
 const USAGE: &str = "usage: export_names tree FILE | export_names findings [B E R U]";
 
 /// The bytes of a file, up to one more than a block may have: enough to see that it is too long.
@@ -51,6 +52,7 @@ fn findings_command(rt: &HostRuntime, args: Args) -> anyhow::Result<()> {
     Ok(())
 }
 
+/// Runs the command that the arguments name.
 fn run(rt: &HostRuntime) -> anyhow::Result<()> {
     let mut args = env::args(rt)?;
     let _ = args.next();
@@ -62,6 +64,7 @@ fn run(rt: &HostRuntime) -> anyhow::Result<()> {
     }
 }
 
+/// Runs the program.
 fn main(rt: HostRuntime) -> anyhow::Result<()> {
     run(&rt)
 }

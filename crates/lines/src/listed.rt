@@ -6,9 +6,11 @@ ghost use Rattle.lines.specs.Listed.{listed};
 use std::fmt;
 
 /// How a row of a list is written.
+// No closure: `fmt` writes to any `W` and a closure takes the formatter of one, nor has it a ghost member for the text.
 pub trait Manner<R> {
     ghost text: { Self → R → List ℕ };
 
+    /// Writes a row.
     fn write_row<W: fmt::Write>(&self, row: &R, f: &mut fmt::Formatter<W>) -> fmt::Result
     where
         Self: Sized,
@@ -22,6 +24,7 @@ pub struct Listed<'a, R, M> {
     pub rows: &'a [R],
 }
 
+/// The rows, each in the manner given.
 impl<R, M: Manner<R>> fmt::Display for Listed<'_, R, M> {
     ghost output = { λ x. Some (listed (M.text x.manner) x.rows.now) };
 

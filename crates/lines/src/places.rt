@@ -11,6 +11,7 @@ use text::Place;
 #[derive(Clone, Copy)]
 pub struct ByNumbers;
 
+/// A place: its offset and its length.
 impl Manner<Place> for ByNumbers {
     ghost text = { λ _ place. place_text place };
 
@@ -19,19 +20,18 @@ impl Manner<Place> for ByNumbers {
     }
 }
 
+/// A binding: the place of the name, and that of the value.
 impl Manner<Binding> for ByNumbers {
     ghost text = { λ _ binding. binding_text binding };
 
     fn write_row<W: fmt::Write>(&self, row: &Binding, f: &mut fmt::Formatter<W>) -> fmt::Result {
-        let Binding { name, value } = *row;
-        write!(
-            f,
-            "{}:{}={}:{}",
-            name.offset, name.length, value.offset, value.length
-        )
+        self.write_row(&row.name, f)?;
+        f.write_str("=")?;
+        self.write_row(&row.value, f)
     }
 }
 
+/// The list of rows by their numbers.
 impl<'a, R> From<&'a [R]> for Listed<'a, R, ByNumbers> {
     ghost from_gives = { λ rows listed. listed.rows.now ≡ rows.now };
 
@@ -58,6 +58,7 @@ pub struct Lists<'a> {
     pub unsafes: &'a [Place],
 }
 
+/// The four lists.
 impl fmt::Display for Lists<'_> {
     ghost output = { λ x. Some (lists_text x.bindings.now x.exports.now x.reexports.now x.unsafes.now) };
 

@@ -8,8 +8,9 @@ use crate::listed::{Listed, Manner};
 use std::fmt;
 use text::{LooseBytes, Place};
 
-/// Writes the bytes of the loose reading of a text, each by its two digits.
-fn write_loose<W: fmt::Write>(text: &[u8], f: &mut fmt::Formatter<W>) -> fmt::Result
+/// Writes the bytes of the loose reading of a text, each by its two hexadecimal digits.
+#[tactic(auto, using(crate::proofs::Digits::byte_written))]
+fn write_hex<W: fmt::Write>(text: &[u8], f: &mut fmt::Formatter<W>) -> fmt::Result
     ensures { WritesOnOk W.write_str_gives f.old result (hex_bytes (loose text.now)) f.new }
 {
     for byte in LooseBytes::new(text) {
@@ -35,12 +36,13 @@ pub struct ByTexts<'a> {
     pub text: &'a [u8],
 }
 
+/// A place: a dot, and the digits of the text there.
 impl Manner<Place> for ByTexts<'_> {
     ghost text = { λ x place. loose_text x.text.now place };
 
     fn write_row<W: fmt::Write>(&self, row: &Place, f: &mut fmt::Formatter<W>) -> fmt::Result {
         f.write_str(".")?;
-        write_loose(bytes_at(self.text, row), f)
+        write_hex(bytes_at(self.text, row), f)
     }
 }
 

@@ -5,6 +5,7 @@ use answers::answer_stream;
 use std::io;
 use std::io::{BufReader, BufWriter, Write};
 
+/// Answers the standard input.
 fn main(rt: HostRuntime) -> io::Result<()> {
     let mut input = BufReader::new(rt.alloc(), rt.stdin())?;
     let mut output = BufWriter::new(rt.alloc(), rt.stdout())?;

@@ -1,7 +1,7 @@
 use Rattle.text.specs.Reading.{loose, to_come}
 use Rattle.lines.specs.Texts.{hex_bytes}
 use Rattle.lines.proofs.Underway.{Going}
-use Rattle.lines.proofs.texts.write_loose.Given as goal
+use Rattle.lines.proofs.texts.write_hex.Given as goal
 
 abbrev pub invariant-loop-byte : goal.invariant-loop-byte
 invariant-loop-byte g l =
