@@ -1,4 +1,5 @@
 //! Large blocks, made in memory.
+use answers::LONGEST_BLOCK;
 use kinds::kind::Kind;
 use std::alloc::{AllocError, Global};
 
@@ -12,6 +13,8 @@ fn put(block: &mut Vec<u8>, numbers: &[u32]) -> Result<(), AllocError> {
 
 /// The header of a block with so many rows and no text.
 fn header(count: u32) -> [u32; 4] {
+    // Saturating, here and in `flat`: no contract bounds the counts, and a sum must not wrap. The format's numbers are
+    // written out, since the trials do not take them from the code that they try.
     let rows = count.saturating_mul(20);
     [16, rows, rows.saturating_add(16), 0]
 }
@@ -54,7 +57,7 @@ pub fn padded(heap: Global, length: usize) -> Result<Vec<u8>, AllocError> {
 /// A stream of the largest block, one of another length, and a small one.
 pub fn framed(heap: Global, length: u32) -> Result<Vec<u8>, AllocError> {
     let mut stream = Vec::new(heap);
-    for count in [4_194_304, length, 36] {
+    for count in [LONGEST_BLOCK as u32, length, 36] {
         put(&mut stream, &[count])?;
         stream.extend_from_slice(&padded(heap, count as usize)?)?;
     }

@@ -3,7 +3,7 @@
 
 mod build;
 
-use answers::{Line, answer_for, answer_stream};
+use answers::{LONGEST_BLOCK, Line, answer_for, answer_stream};
 use build::{chain, flat, framed, padded};
 use std::io;
 
@@ -30,8 +30,8 @@ fn blocks(rt: &HostRuntime) -> io::Result<()> {
     show(rt, "a row under 256 others", &chain(heap, 257)?)?;
     show(rt, "a row under 257 others", &chain(heap, 258)?)?;
     show(rt, "a row under 300 others", &chain(heap, 301)?)?;
-    show(rt, "the largest block", &padded(heap, 4_194_304)?)?;
-    show(rt, "one byte more", &padded(heap, 4_194_305)?)
+    show(rt, "the largest block", &padded(heap, LONGEST_BLOCK)?)?;
+    show(rt, "one byte more", &padded(heap, LONGEST_BLOCK + 1)?)
 }
 
 /// Streams that are empty, cut short, or hold a block that is too long.
@@ -50,7 +50,7 @@ fn streams(rt: &HostRuntime) -> io::Result<()> {
     show_stream(
         rt,
         "the largest block, one byte more, and a small one",
-        &framed(heap, 4_194_305)?,
+        &framed(heap, LONGEST_BLOCK as u32 + 1)?,
     )?;
     let whole = framed(heap, 4_194_400)?;
     let cut = whole.len().min(8_388_700);

@@ -68,6 +68,7 @@ impl TryFrom<u32> for Kind {
 
     ghost try_from_gives = { Decodes };
 
+    // The numbers once more: Rust has no cast from a number to an enum. The cast the other way is `Kind::number`.
     fn try_from(number: u32) -> Result<Self, UnknownKind> {
         match number {
             0 => Ok(Kind::Other),

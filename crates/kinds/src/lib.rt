@@ -2,5 +2,6 @@
 #![tactic(auto)]
 
 pub mod kind;
+mod number;
 pub mod shape;
 mod table;

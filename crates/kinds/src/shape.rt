@@ -4,6 +4,10 @@ ghost use Rattle.kinds.specs.Number.{number};
 ghost use Rattle.kinds.specs.Shape.{has};
 
 use crate::kind::{Kind, UnknownKind};
+pub use crate::number::{
+    fewest_children, first_child_group, highest_mark, is_kind, last_child_group, later_child_group,
+    most_children, text_of,
+};
 
 /// How the text of a row is encoded.
 #[derive(Clone, Copy, PartialEq, Eq, Debug)]
@@ -33,9 +37,16 @@ pub enum Group {
     Str,
 }
 
+/// Whether a kind is that of a specifier.
+fn is_specifier(kind: Kind) -> bool
+    ensures { result ≡ has Group.Specifier (number kind) }
+{
+    (Kind::NamespaceSpec..=Kind::NamedSpec).contains(&kind)
+}
+
 impl Group {
-    /// Whether a kind belongs to the group.
-    pub fn has(self, kind: Kind) -> bool
+    /// Whether a kind belongs to the group: as `has`, of a kind that is known.
+    pub fn takes(self, kind: Kind) -> bool
         ensures { result ≡ has self (number kind) }
     {
         match self {
@@ -63,21 +74,19 @@ impl Group {
                 matches!(kind, Kind::Other | Kind::Spread)
                     || (Kind::KeyValue..=Kind::Method).contains(&kind)
             }
-            Group::Specifier => (Kind::NamespaceSpec..=Kind::NamedSpec).contains(&kind),
-            Group::SpecifierOrStr => {
-                kind == Kind::Str || (Kind::NamespaceSpec..=Kind::NamedSpec).contains(&kind)
-            }
+            Group::Specifier => is_specifier(kind),
+            Group::SpecifierOrStr => kind == Kind::Str || is_specifier(kind),
             Group::Str => kind == Kind::Str,
         }
     }
 
     /// Whether a child whose kind has this number may stand here. One that no kind has is refused for its own row,
     /// and here only where the group lists kinds.
-    pub fn allows(self, number: u32) -> bool
+    pub fn has(self, number: u32) -> bool
         ensures { result ≡ has self number }
     {
         match Kind::try_from(number) {
-            Ok(kind) => self.has(kind),
+            Ok(kind) => self.takes(kind),
             Err(UnknownKind(_)) => {
                 matches!(self, Group::Any | Group::NotBlock | Group::NotModuleItem)
             }

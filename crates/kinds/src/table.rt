@@ -1,6 +1,5 @@
 //! The table of kinds: which text, marks and children each kind of row has, as docs/TREE.md has it.
-ghost use Rattle.std.specs.Prelude.{◌≡◌, ◌==◌, ◌&&◌};
-ghost use Rattle.kinds.specs.Kinds.{program};
+ghost use Rattle.std.specs.Prelude.{◌≡◌};
 ghost use Rattle.kinds.specs.Number.{number};
 ghost use Rattle.kinds.specs.Shape.{fewest, first_child, highest_mark, last_child, later_child, most, text_of};
 
@@ -94,6 +93,9 @@ static TABLE: [Line; 50] = [
     line!(None, 0, 0, None, Any, Any, None), // 49 TypeDecl
 ];
 
+/// The line of a script, a Program of mark 1.
+static SCRIPT: Line = line!(None, 1, 0, None, NotModuleItem, NotModuleItem, None);
+
 impl Kind {
     /// The encoding of the text that a kind of row has, or None where it has no text.
     pub fn text(self) -> Option<Encoding>
@@ -123,33 +125,30 @@ impl Kind {
         TABLE[self as usize].most
     }
 
-    /// Whether a row is a script, whose children the mark tells and not the table.
-    fn is_script(self, mark: u32) -> bool
-        ensures { result ≡ (number self == program && mark == 1) }
+    /// The line of a row. A script's is its own, since the mark tells its children.
+    fn line(self, mark: u32) -> Line
+        ensures first { result.first ≡ first_child (number self) mark }
+        ensures later { result.later ≡ later_child (number self) mark }
     {
-        self == Kind::Program && mark == 1
+        if self == Kind::Program && mark == 1 {
+            SCRIPT
+        } else {
+            TABLE[self as usize]
+        }
     }
 
     /// The group of the first child.
     pub fn first_child_group(self, mark: u32) -> Group
         ensures { result ≡ first_child (number self) mark }
     {
-        if self.is_script(mark) {
-            NotModuleItem
-        } else {
-            TABLE[self as usize].first
-        }
+        self.line(mark).first
     }
 
     /// The group of each child after the first.
     pub fn later_child_group(self, mark: u32) -> Group
         ensures { result ≡ later_child (number self) mark }
     {
-        if self.is_script(mark) {
-            NotModuleItem
-        } else {
-            TABLE[self as usize].later
-        }
+        self.line(mark).later
     }
 
     /// The group of the last child, where it differs from that of its place.

@@ -1,7 +1,7 @@
 -- The readings by code points.
 use Rattle.std.proofs.Common.{◌≡◌, ℕ, suc, ◌<◌, Bool, true, false, cond, ◌||◌, List, [], ◌∷◌, ◌++◌, map, length, is_some, Some, None, IsUtf8, Decides, sym, refl, ap, ◌∙◌, inl, inr, ⊎_elim, arith}
 use lib.Utf8.{encode, encodes, scalar, scalars, scalar_cases}
-use Rattle.std.proofs.lemmas.Bool.{cond-true, cond-false, and_parts, and_from, or_parts, or_from, ltb-true}
+use Rattle.std.proofs.lemmas.Bool.{cond-true, cond-false, cond_both, and_parts, and_from, or_parts, or_from, ltb-true}
 use Rattle.std.proofs.lemmas.Bool.Decides.{nat_tests}
 use Rattle.text.specs.Points.{points, Wtf8}
 use Rattle.text.specs.Reading.{loose_after, loose, begins, marked, plain}
@@ -17,14 +17,10 @@ marked_encodes [] = refl
 marked_encodes (c ∷ cs) = (reads_point c (encodes cs)).1 ∙ ap (λ t. surrogate c || t) (marked_encodes cs)
 
 -- a reading is as long as its text
-either : (n : ℕ) (t : Bool) (xs ys : List ℕ) → length xs ≡ n → length ys ≡ n → length (cond t xs ys) ≡ n
-either n true xs ys p q = p
-either n false xs ys p q = q
-
 length_after : (pending bs : List ℕ) → length (loose_after pending bs) ≡ length bs
 length_after pending [] = refl
 length_after (p ∷ pending) (b ∷ bs) = ap suc (length_after pending bs)
-length_after [] (b ∷ bs) = either (suc (length bs)) (begins b bs) (239 ∷ loose_after (191 ∷ 189 ∷ []) bs) (b ∷ loose_after [] bs) (ap suc (length_after (191 ∷ 189 ∷ []) bs)) (ap suc (length_after [] bs))
+length_after [] (b ∷ bs) = cond_both (begins b bs) _ _ (λ l. length l ≡ suc (length bs)) (λ e. ap suc (length_after (191 ∷ 189 ∷ []) bs)) (λ e. ap suc (length_after [] bs))
 
 pub length_loose : (bs : List ℕ) → length (loose bs) ≡ length bs
 length_loose = length_after []

@@ -1,6 +1,5 @@
 mod Coding
 mod Wellformed
-mod Alike
 mod Bytewise
 pub mod Orders
 mod OnePoint

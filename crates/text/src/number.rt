@@ -9,7 +9,8 @@ pub fn read_le32(bytes: &[u8], at: usize) -> u32
     ensures { result ≡ le32 bytes.now at }
 {
     let four = part(bytes, at, 4);
-    // The zeros are the promise: no array can be had of fewer than four bytes.
-    let byte = |k: usize| four.get(k).copied().unwrap_or(0);
-    u32::from_le_bytes([byte(0), byte(1), byte(2), byte(3)])
+    // Zeros for the bytes past the end are promised.
+    let mut all = [0; 4];
+    all[..four.len()].copy_from_slice(four);
+    u32::from_le_bytes(all)
 }

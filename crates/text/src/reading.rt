@@ -70,7 +70,8 @@ pub fn compare_loose(a: &[u8], b: &[u8]) -> Ordering
 pub fn equal_loose(a: &[u8], b: &[u8]) -> bool
     ensures { Decides result (loose a.now ≡ loose b.now) }
 {
-    LooseBytes::new(a).eq(LooseBytes::new(b))
+    // No `==`: texts that differ in bytes may have one loose reading.
+    compare_loose(a, b).is_eq()
 }
 
 /// The plain reading of a text: the text itself, or none where a surrogate occurs.
@@ -79,11 +80,7 @@ pub fn plain_of(text: &[u8]) -> Option<&[u8]>
     ensures reading { seen result ≡ plain text.now }
     ensures by_points { PlainByCodePoints }
 {
-    if text.windows(2).any(begins_surrogate) {
-        None
-    } else {
-        Some(text)
-    }
+    (!text.windows(2).any(begins_surrogate)).then_some(text)
 }
 
 /// Writes the loose reading of a text over `out` from `at` on, and answers where it ends. Where it does not fit,
@@ -95,7 +92,8 @@ pub fn write_loose(text: &[u8], out: &mut [u8], at: usize) -> Option<usize>
     ensures by_points { LooseByCodePoints }
 {
     let end = at.checked_add(text.len()).filter(|end| *end <= out.len())?;
-    // By number: an `iter_mut().zip(..)` was tried, and after an adapter of `iter_mut` nothing is known of the values.
+    // By number: an `iter_mut().zip(..)` was tried, and after an adapter of `iter_mut` nothing is known of the values;
+    // without one the reading would be asked by hand.
     for (i, byte) in (at..end).zip(LooseBytes::new(text)) {
         out[i] = byte;
     }

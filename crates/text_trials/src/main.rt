@@ -7,11 +7,11 @@ mod texts;
 
 use cases::{NUMBERS, ORDERS, PARTS, WORDS, WRITINGS};
 use show::{show_number, show_order, show_part, show_word, show_writing};
-use std::io::Error;
+use std::io;
 use texts::show_texts;
 
 /// Prints the lines of all cases.
-fn main(rt: HostRuntime) -> Result<(), Error> {
+fn main(rt: HostRuntime) -> io::Result<()> {
     show_texts(rt)?;
     for (a, b) in &ORDERS {
         show_order(rt, a, b)?;

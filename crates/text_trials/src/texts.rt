@@ -1,6 +1,6 @@
 //! Texts of every shape: well-formed, with surrogates, and damaged.
 use crate::show::show_text;
-use std::io::Error;
+use std::io;
 
 /// The first and the last code points of each width, and beside the surrogates.
 static BOUNDS: [&[u8]; 13] = [
@@ -114,7 +114,7 @@ static TOO_LARGE: [&[u8]; 13] = [
 ];
 
 /// Shows each of the texts.
-fn show_each(rt: HostRuntime, texts: &[&[u8]]) -> Result<(), Error> {
+fn show_each(rt: HostRuntime, texts: &[&[u8]]) -> io::Result<()> {
     for text in texts {
         show_text(rt, text)?;
     }
@@ -122,7 +122,7 @@ fn show_each(rt: HostRuntime, texts: &[&[u8]]) -> Result<(), Error> {
 }
 
 /// Shows all texts.
-pub fn show_texts(rt: HostRuntime) -> Result<(), Error> {
+pub fn show_texts(rt: HostRuntime) -> io::Result<()> {
     show_each(rt, &BOUNDS)?;
     show_each(rt, &SURROGATES)?;
     show_each(rt, &DAMAGED_SURROGATES)?;

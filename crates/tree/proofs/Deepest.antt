@@ -1,10 +1,11 @@
 -- What `deep` finds is the first row that more than 256 rows enclose.
 use Rattle.std.proofs.Common.{◌≡◌, ℕ, zero, suc, ◌+◌, ◌-◌, ◌<◌, ◌≤◌, cond, ltb, List, length, Some, None, Option, sym, refl, ap, ◌∙◌, subst, ⊎_elim, add-one, arith}
 use Rattle.std.proofs.lemmas.Bool.{cases_lt, lt-ltb, le-ltb}
+use Rattle.std.specs.Option.{option_or}
 use Rattle.tree.specs.declared.row.Row.{Row}
 use Rattle.tree.specs.Forest.{nil, forest, end_at, children, Nested}
 use Rattle.tree.specs.First.{First}
-use Rattle.tree.specs.Depth.{or_else, deep, enclosing, depth, Shallow}
+use Rattle.tree.specs.Depth.{deep, enclosing, depth, Shallow}
 use Rattle.tree.proofs.Grown.{Span, forest_none, forest_some, span_children_in, span_rest, end_in_rows}
 
 -- the first row from a up to e that more than 256 rows enclose, or that there is none
@@ -28,7 +29,7 @@ module _ (rs : List Row) where
       let e : a + suc m ≡ suc (a + m) = omega arith in
       rw e (no_more (a + m) j (h (a + m) (omega arith) (omega arith)) ∙ flat m a j (λ i p q. h i p (omega arith)))
 
-  joined : (a m e : ℕ) (o p : Option ℕ) → a < m → m ≤ e → depth rs a ≤ 256 → FirstDeep rs (a + 1) m o → FirstDeep rs m e p → FirstDeep rs a e (or_else o p)
+  joined : (a m e : ℕ) (o p : Option ℕ) → a < m → m ≤ e → depth rs a ≤ 256 → FirstDeep rs (a + 1) m o → FirstDeep rs m e p → FirstDeep rs a e (option_or o p)
   joined a m e None None l le d x y = λ k h i. first a k d h (λ q. ⊎_elim (λ w. x k q w) (λ w. y k w i) (cases_lt k m))
     where
       first : (a k : ℕ) → depth rs a ≤ 256 → a ≤ k → (a + 1 ≤ k → depth rs k ≤ 256) → depth rs k ≤ 256
@@ -49,7 +50,7 @@ module _ (rs : List Row) where
     (λ j h i. ⊎_elim (λ w. x.3 j (omega arith) i) (λ w. let s : a ≡ j = omega arith in subst (λ z. depth rs z ≤ 256) s d) (cases_lt a j)),
   )
 
-  turn : (a m e d : ℕ) (o p : Option ℕ) → a < m → m ≤ e → depth rs a ≡ d → FirstDeep rs (a + 1) m o → FirstDeep rs m e p → FirstDeep rs a e (cond (ltb 256 d) (Some a) (or_else o p))
+  turn : (a m e d : ℕ) (o p : Option ℕ) → a < m → m ≤ e → depth rs a ≡ d → FirstDeep rs (a + 1) m o → FirstDeep rs m e p → FirstDeep rs a e (cond (ltb 256 d) (Some a) (option_or o p))
   turn a m e d o p l le here x y =
       ⊎_elim
       (λ w. rw (lt-ltb 256 d w) (omega arith, omega arith, omega arith, λ j h i. absurd (omega arith)))
@@ -92,11 +93,11 @@ module _ (rs : List Row) where
         ⊎_elim
         (λ h.
         let end : forest rs (end_at rs 0) (length rs) ≡ nil = forest_none rs law _ _ (omega (arith, law.whole)) in
-        sym (ap (deep 0) (forest_some rs law 0 (length rs) h (record { in_rows = omega arith; closed = λ k a b. end_in_rows rs law k b })) ∙ ap (λ f. or_else (deep 1 (children rs 0)) (deep 0 f)) end ∙ or_none (deep 1 (children rs 0))))
+        sym (ap (deep 0) (forest_some rs law 0 (length rs) h (record { in_rows = omega arith; closed = λ k a b. end_in_rows rs law k b })) ∙ ap (λ f. option_or (deep 1 (children rs 0)) (deep 0 f)) end ∙ or_none (deep 1 (children rs 0))))
         (λ h. ap (deep 1) (forest_none rs law _ _ (omega (arith, law.whole))) ∙ sym (ap (deep 0) (forest_none rs law _ _ h)))
         (cases_lt 0 (length rs))
       where
-        or_none : (o : Option ℕ) → or_else o None ≡ o
+        or_none : (o : Option ℕ) → option_or o None ≡ o
         or_none None = refl
         or_none (Some k) = refl
 

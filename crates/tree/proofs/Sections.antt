@@ -1,5 +1,5 @@
 -- The rows of a section by their numbers.
-use Rattle.std.proofs.Common.{◌≡◌, ℕ, zero, suc, ◌+◌, ◌-◌, ◌*◌, ◌/◌, ◌<◌, ◌≤◌, List, [], length, get_or, take, drop, refl, sym, ap, ◌∙◌, arith}
+use Rattle.std.proofs.Common.{◌≡◌, ℕ, zero, suc, ◌+◌, ◌-◌, ◌*◌, ◌/◌, ◌<◌, ◌≤◌, List, [], length, get_or, take, drop, mul-zero, refl, sym, ap, ◌∙◌, arith}
 use Rattle.std.specs.Prelude.{MatchOption, Some, None, Option}
 use Rattle.std.specs.List.{slice_range}
 use Rattle.std.specs.Simd.{first_chunks}
@@ -40,31 +40,35 @@ length_chunks : (k : ℕ) (xs : List ℕ) → length (first_chunks 20 k xs) ≡ 
 length_chunks zero xs = refl
 length_chunks (suc k) xs = ap suc (length_chunks k (drop 20 xs))
 
-chunk_at : (k : ℕ) (xs : List ℕ) (j : ℕ) (d : List ℕ) → j < k → get_or (first_chunks 20 k xs) j d ≡ take 20 (drop (20 * j) xs)
-chunk_at zero xs j d h = absurd (omega arith)
-chunk_at (suc k) xs zero d h = refl
-chunk_at (suc k) xs (suc j) d h =
-    let e : 20 + 20 * j ≡ 20 * suc j = omega arith in
-    chunk_at k (drop 20 xs) j d (omega arith) ∙ ap (take 20) (drop-drop (20 * j) 20 xs) ∙ ap (λ o. take 20 (drop o xs)) e
+chunk_at : (w k : ℕ) (xs : List ℕ) (j : ℕ) (d : List ℕ) → j < k → get_or (first_chunks w k xs) j d ≡ take w (drop (w * j) xs)
+chunk_at w zero xs j d h = absurd (omega arith)
+chunk_at w (suc k) xs zero d h = ap (λ o. take w (drop o xs)) (sym (mul-zero w))
+chunk_at w (suc k) xs (suc j) d h =
+    let e : w + w * j ≡ w * suc j = omega arith in
+    chunk_at w k (drop w xs) j d (omega arith) ∙ ap (take w) (drop-drop (w * j) w xs) ∙ ap (λ o. take w (drop o xs)) e
 
-byte_at : (xs : List ℕ) (o q k : ℕ) → q < 20 → o + q ≡ k → get_or (take 20 (drop o xs)) q 0 ≡ get_or xs k 0
-byte_at xs o q k h e = get_or-take 20 (drop o xs) q 0 h ∙ get_or-drop o xs q 0 ∙ ap (λ i. get_or xs i 0) e
+byte_at : (w : ℕ) (xs : List ℕ) (o q k : ℕ) → q < w → o + q ≡ k → get_or (take w (drop o xs)) q 0 ≡ get_or xs k 0
+byte_at w xs o q k h e = get_or-take w (drop o xs) q 0 h ∙ get_or-drop o xs q 0 ∙ ap (λ i. get_or xs i 0) e
 
-number_at : (xs : List ℕ) (o q k : ℕ) → q + 3 < 20 → o + q ≡ k → le32 (take 20 (drop o xs)) q ≡ le32 xs k
-number_at xs o q k h e =
-    let a = byte_at xs o q k (omega arith) e in
-    let b = byte_at xs o (q + 1) (k + 1) (omega arith) (omega arith) in
-    let c = byte_at xs o (q + 2) (k + 2) (omega arith) (omega arith) in
-    let d = byte_at xs o (q + 3) (k + 3) (omega arith) (omega arith) in
+number_at : (w : ℕ) (xs : List ℕ) (o q k : ℕ) → q + 3 < w → o + q ≡ k → le32 (take w (drop o xs)) q ≡ le32 xs k
+number_at w xs o q k h e =
+    let a = byte_at w xs o q k (omega arith) e in
+    let b = byte_at w xs o (q + 1) (k + 1) (omega arith) (omega arith) in
+    let c = byte_at w xs o (q + 2) (k + 2) (omega arith) (omega arith) in
+    let d = byte_at w xs o (q + 3) (k + 3) (omega arith) (omega arith) in
     λ i. a i + b i * 256 + c i * 65536 + d i * 16777216
+
+-- a number of the header, from the four bytes that it is read from
+pub number_from : (xs : List ℕ) (chunks : List (List ℕ)) (k j n : ℕ) → chunks ≡ first_chunks 4 k xs → j < k → n ≡ le32 (get_or chunks j []) 0 → n ≡ le32 xs (4 * j)
+number_from xs chunks k j n front h is = is ∙ ap (λ l. le32 l 0) (ap (λ l. get_or l j []) front ∙ chunk_at 4 k xs j [] h) ∙ number_at 4 xs (4 * j) 0 (4 * j) (omega arith) (omega arith)
 
 row_cut : (xs : List ℕ) (o : ℕ) → row_in (take 20 (drop o xs)) 0 ≡ row_in xs o
 row_cut xs o =
-    let a = number_at xs o 0 o (omega arith) (omega arith) in
-    let b = number_at xs o 4 (o + 4) (omega arith) refl in
-    let c = number_at xs o 8 (o + 8) (omega arith) refl in
-    let d = number_at xs o 12 (o + 12) (omega arith) refl in
-    let e = number_at xs o 16 (o + 16) (omega arith) refl in
+    let a = number_at 20 xs o 0 o (omega arith) (omega arith) in
+    let b = number_at 20 xs o 4 (o + 4) (omega arith) refl in
+    let c = number_at 20 xs o 8 (o + 8) (omega arith) refl in
+    let d = number_at 20 xs o 12 (o + 12) (omega arith) refl in
+    let e = number_at 20 xs o 16 (o + 16) (omega arith) refl in
     λ i. record { kind = a i; mark = b i; offset = c i; length = d i; end = e i }
 
 -- the rows of a section cut into twenty bytes each are those of the section
@@ -77,7 +81,7 @@ rows_cut section n =
     (λ k d h.
     let i : k < n = omega (arith, length-map cut (λ bytes. row_in bytes 0)) in
     get_or-map (λ bytes. row_in bytes 0) cut k [] d (omega arith)
-    ∙ ap (λ bytes. row_in bytes 0) (chunk_at n section k [] i)
+    ∙ ap (λ bytes. row_in bytes 0) (chunk_at 20 n section k [] i)
     ∙ row_cut section (20 * k)
     ∙ sym (get_or-map-range_with_len (λ j. row_in section (20 * j)) 0 n k k d i (omega arith)))
 

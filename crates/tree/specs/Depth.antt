@@ -1,5 +1,6 @@
 -- How many rows enclose a row.
 use Rattle.std.specs.Prelude.{ℕ, zero, suc, ◌+◌, ◌≤◌, cond, List, Some, None, Option, nat_lt}
+use Rattle.std.specs.Option.{option_or}
 use Rattle.tree.specs.declared.row.Row.{Row}
 use Rattle.tree.specs.Forest.{Forest, nil, node, end_at}
 
@@ -16,11 +17,7 @@ depth rs j = enclosing rs j j
 abbrev pub Shallow : List Row → ℕ → Type 0
 Shallow rs j = depth rs j ≤ 256
 
-abbrev pub or_else : Option ℕ → Option ℕ → Option ℕ
-or_else None o = o
-or_else (Some k) o = Some k
-
 -- the first row of a tree that more than 256 rows enclose, where d rows enclose those at its top
 abbrev pub deep : ℕ → Forest → Option ℕ
 deep d nil = None
-deep d (node j r children siblings) = cond (nat_lt 256 d) (Some j) (or_else (deep (d + 1) children) (deep d siblings))
+deep d (node j r children siblings) = cond (nat_lt 256 d) (Some j) (option_or (deep (d + 1) children) (deep d siblings))

@@ -26,6 +26,7 @@ impl<'a> Tree<'a> {
     }
 
     /// Row j; a row of zeros past the rows.
+    // No `Option`: callers are promised an answer for every number, here and in `kind` and `text`.
     pub fn row(&self, j: usize) -> Row
         ensures { result ≡ row_at (tree_rows self.now) j }
     {
@@ -33,6 +34,7 @@ impl<'a> Tree<'a> {
     }
 
     /// The kind of row j; `Kind::Other` past the rows.
+    // No `Option`: the kind of the row of zeros, which callers are promised past the rows.
     #[tactic(auto, using(crate::proofs::KnownKinds::decoded, crate::proofs::KnownKinds::known))]
     pub fn kind(&self, j: usize) -> Kind
         ensures { number result ≡ (row_at (tree_rows self.now) j).kind }

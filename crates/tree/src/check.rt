@@ -12,7 +12,7 @@ impl<'a> Tree<'a> {
     /// Checks a block, which belongs to a module. It reads nothing outside the block, and takes time in proportion to
     /// the block where its texts do not overlap.
     // A module and its block stay two arguments of the public functions: every caller would build a struct of the two
-    // at the call, and it is read apart at once.
+    // at the call.
     #[tactic(auto, using(crate::proofs::Verdicts::one_verdict, crate::proofs::Positions::children_fit_by_place))]
     pub fn check(module: u32, block: &'a [u8]) -> Result<Tree<'a>, TreeFault>
         ensures verdict { Verdict «module» block.now (described (fault_of result)) }

@@ -15,25 +15,18 @@ impl<'a> NestedRows<'a> {
         ensures under { Under (rows_of self.now.rows) j result }
     {
         let end = self.rows.end(j);
-        if j < end && j + 1 < end {
-            Some(j + 1)
-        } else {
-            None
-        }
+        j.checked_add(1).filter(|child| *child < end)
     }
 
     /// The sibling after row c among the children of row j.
+    #[tactic(auto, using(crate::proofs::Grown::siblings_some, crate::proofs::Grown::siblings_none))]
     pub(crate) fn next_sibling(&self, c: usize, j: usize) -> Option<usize>
         ensures is { siblings (rows_of self.now.rows) c j ≡ since (rows_of self.now.rows) j result }
         ensures under { Under (rows_of self.now.rows) j result }
         ensures later { Under (rows_of self.now.rows) c result }
     {
         let next = self.rows.end(c);
-        if j < c && c < next && next < self.rows.end(j) {
-            Some(next)
-        } else {
-            None
-        }
+        (j < c && c < next && next < self.rows.end(j)).then_some(next)
     }
 
     /// The numbers of the children of row j.

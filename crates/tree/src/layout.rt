@@ -3,7 +3,6 @@ ghost use Rattle.std.specs.Prelude.{MatchOption};
 ghost use Rattle.tree.specs.Block.{LawfulLayout, SectionsOf};
 
 use crate::row::{ROW_BYTES, Rows};
-use text::read_le32;
 
 /// How many bytes the header takes.
 const HEADER: usize = 16;
@@ -26,13 +25,17 @@ pub(crate) struct Sections<'a> {
 pub(crate) fn sections_of(block: &[u8]) -> Option<Sections<'_>>
     ensures { MatchOption result (LawfulLayout block.now → ⊥) (SectionsOf block.now) }
 {
-    if block.len() < HEADER || block.len() > LONGEST_BLOCK {
+    if block.len() > LONGEST_BLOCK {
         return None;
     }
-    let rows_offset = read_le32(block, 0) as usize;
-    let rows_end = rows_offset + read_le32(block, 4) as usize;
-    let text_offset = read_le32(block, 8) as usize;
-    let text_end = text_offset + read_le32(block, 12) as usize;
+    let ([rows_at, rows_length, text_at, text_length, ..], _) = block.as_chunks::<4>() else {
+        return None;
+    };
+    // Two pairs of two lines: a function for one pair would want a clause as long.
+    let rows_offset = u32::from_le_bytes(*rows_at) as usize;
+    let rows_end = rows_offset + u32::from_le_bytes(*rows_length) as usize;
+    let text_offset = u32::from_le_bytes(*text_at) as usize;
+    let text_end = text_offset + u32::from_le_bytes(*text_length) as usize;
     if rows_offset < HEADER || rows_end > text_offset {
         return None;
     }

@@ -27,6 +27,7 @@ impl<'t, 'a> Iterator for Children<'t, 'a> {
 
 impl<'a> Tree<'a> {
     /// The node at row j; one of kind Other with nothing under it, past the rows.
+    // No `Option`: callers are promised a node for every number, as `Tree::row` promises a row.
     pub fn node(&self, j: usize) -> Node<'_, 'a>
         ensures tree { result.tree.now ≡ self.now }
         ensures row { result.row ≡ j }
@@ -48,6 +49,13 @@ impl<'t, 'a> Node<'t, 'a> {
         ensures { result ≡ self.entry.row }
     {
         self.row
+    }
+
+    /// The number of the row at which the node ends: the first after what stands under it.
+    pub fn end(self) -> usize
+        ensures { result ≡ (row_of self.entry).end }
+    {
+        self.tree.row(self.row).end as usize
     }
 
     /// What the node is.

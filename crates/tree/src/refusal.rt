@@ -7,6 +7,7 @@ use std::error::Error;
 use std::fmt;
 
 /// The refusal of a block, with the module that it belongs to and, but for the layout, the first row that offends.
+// Each case has its module and its row, so that a caller who matches one case has them.
 #[derive(Clone, Copy, PartialEq, Eq, Debug)]
 pub enum TreeFault {
     Layout { module: u32 },

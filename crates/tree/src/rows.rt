@@ -61,7 +61,7 @@ impl Rows<'_> {
     pub(crate) fn row(&self, j: usize) -> Row
         ensures { result ≡ row_at (rows_of self.now) j }
     {
-        // A call that asks nothing of its caller needs an answer for every number.
+        // No `Option`: `Tree::row` promises its callers the row of zeros past the rows.
         self.bytes.get(j).map_or(Row::default(), Row::from)
     }
 
@@ -69,6 +69,7 @@ impl Rows<'_> {
     pub(crate) fn end(&self, j: usize) -> usize
         ensures { result ≡ end_at (rows_of self.now) j }
     {
+        // No `Option`: its callers compare ends, and with 0 past the rows each comparison fails.
         self.row(j).end as usize
     }
 }

@@ -60,7 +60,7 @@ impl NestedRows<'_> {
         may_have(kind, count)
             && self.children(j).enumerate().all(|(place, c)| {
                 let group = group_at(kind, mark, place, count);
-                group.allows(self.rows.row(c).kind)
+                group.has(self.rows.row(c).kind)
             })
     }
 

@@ -6,9 +6,8 @@ ghost use Rattle.tree.specs.Forest.{row_at};
 ghost use Rattle.tree.specs.Texts.{Inside, LawfulText, text_at};
 
 use crate::row::{Row, Rows};
-use kinds::kind::Kind;
-use kinds::shape::Encoding;
-use text::{is_utf8, is_wtf8};
+use kinds::shape::{Encoding, text_of};
+use text::{Place, is_utf8, is_wtf8};
 
 impl Row {
     /// Whether the text of the row lies in its section.
@@ -29,8 +28,8 @@ impl Row {
     fn is_lawful_text(&self, section: &[u8]) -> bool
         ensures { Decides result (LawfulText section.now self.now) }
     {
-        match self.kind().ok().and_then(Kind::text) {
-            None => self.offset == 0 && self.length == 0,
+        match text_of(self.kind) {
+            None => self.place() == Place::default(),
             Some(Encoding::Utf8) => self.is_inside(section) && is_utf8(self.text_in(section)),
             Some(Encoding::Wtf8) => self.is_inside(section) && is_wtf8(self.text_in(section)),
         }

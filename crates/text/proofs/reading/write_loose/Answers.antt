@@ -7,19 +7,6 @@ use Rattle.text.specs.Reading.{loose, to_come}
 use Rattle.text.proofs.ByPoints.{length_loose}
 use Rattle.text.proofs.reading.write_loose.Goals as goal
 
-pub loop-i-init : goal.loop-i-init
-loop-i-init c =
-    let all = c.into_iter-i-iterator.ensures.into_iter_gives in
-    let first = ap zip_first all ∙ c.zip-i-items.ensures.first in
-    let second = ap to_come (ap zip_second all ∙ c.zip-i-items.ensures.second) ∙ c.new.ensures in
-    let ends : c.in_ok-end.end ≡ c.args.at + length c.args.text.now = search rules in
-    let n = length_loose c.args.text.now in
-    record {
-      same = sym (λ i. sets c.args.out.now (first i).start (second i));
-      end = ap (λ r. r.end) first;
-      left = (λ i. (first i).start + length (second i)) ∙ ap (λ k. c.args.at + k) n ∙ sym ends;
-    }
-
 pub returns-clause-contents : goal.returns-clause-contents
 returns-clause-contents c =
     let ends : c.in_ok-end.end ≡ c.args.at + length c.args.text.now = search rules in

@@ -5,9 +5,6 @@ use Rattle.tree.proofs.Cover.{Looked, lawful_to, look, offends}
 use Rattle.tree.proofs.Grown.{nested}
 use Rattle.tree.proofs.row.Rows.nested.Goals as goal
 
-pub loop-j-init : goal.loop-j-init
-loop-j-init c = record { reached = omega arith; in_rows = omega arith; unlawful = λ l s. absurd (omega arith); above = λ i h. absurd (omega arith); covered = λ i h. absurd (omega arith) }
-
 pub returns-then-j-limit : goal.returns-then-j-limit
 returns-then-j-limit c =
     let rs = rows_of c.args.self in

@@ -64,9 +64,3 @@ pub returns-clause-verdict : goal.returns-clause-verdict
 returns-clause-verdict c =
     let at = goal.at.returns-clause-verdict c in
     accepted (lawful at.In_default-first_unlawful_text (own at.In_ok-rows (read at.In_ok-sections)))
-
-pub returns-clause-tree : goal.returns-clause-tree
-returns-clause-tree c =
-    let at = goal.at.returns-clause-tree c in
-    let s = own at.In_ok-rows (read at.In_ok-sections) in
-    search (rules, s, lawful at.In_default-first_unlawful_text s)
