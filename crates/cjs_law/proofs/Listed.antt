@@ -1,14 +1,15 @@
 -- What is computed is what the words say, and nothing else is.
 use Rattle.std.proofs.Common.{◌≡◌, ℕ, Bool, true, false, cond, ◌⊎◌, ◌↔◌, List, [], ◌∷◌, ◌++◌, map, is_err, Ok, Err, filter, Result, Ordering, Less, Equal, Greater, sym, refl, ap, ◌∙◌, subst, inl, inr, ⊎_elim, true≢false, arith}
+use Rattle.std.specs.Ordering.{match_ordering}
 use Rattle.std.proofs.lemmas.List.{append-nil, append_assoc}
-use Rattle.table.specs.Table.{InOrder, by_rank, later, place, without}
+use Rattle.table.specs.Table.{InOrder, later, place, without}
 use Rattle.table.specs.Totals.{numbers_total}
 use Rattle.table.proofs.Rising.{ordered_entered, ordered_kept}
 use Rattle.text.specs.Reading.{order}
 use Rattle.text.proofs.Orders.{order_same}
 use Rattle.cjs_law.specs.Lists.{In, First, Has, Lists, insert, insert_all}
 use Rattle.cjs_law.proofs.Ascending.{Above, Ascends, ascends_from}
-use Rattle.cjs_law.proofs.Order.{greater_apart, less_apart, order_own, order_trans}
+use Rattle.cjs_law.proofs.Order.{greater_apart, less_apart, order_own}
 
 later_err : (p : Result ℕ ℕ) → is_err (later p) ≡ is_err p
 later_err (Ok i) = refl
@@ -22,7 +23,7 @@ module _ {X : Type 0} (key : X → List ℕ) where
 
   pub above_less : (k l : List ℕ) (xs : List X) → order k l ≡ Less → Above key l xs → Above key k xs
   above_less k l [] e h = tt
-  above_less k l (y ∷ ys) e h = (order_trans k l (key y) e h.0, above_less k l ys e h.1)
+  above_less k l (y ∷ ys) e h = (numbers_total.laws.trans k l (key y) e h.0, above_less k l ys e h.1)
 
   pub not_own : (k : List ℕ) (x : X) → key x ≡ k → order k (key x) ≡ Less → ⊥
   not_own k x e h = less_apart k (key x) h (sym e)
@@ -32,7 +33,7 @@ module _ {X : Type 0} (key : X → List ℕ) where
   heads : (x y : X) (xs ys : List X) → Above key (key x) xs → Above key (key y) ys → In x (y ∷ ys) → In y (x ∷ xs) → x ≡ y
   heads x y xs ys a b (inl e) j = e
   heads x y xs ys a b (inr i) (inl e) = sym e
-  heads x y xs ys a b (inr i) (inr j) = absurd (order_own (key x) (order_trans (key x) (key y) (key x) (above_in (key x) y xs a j) (above_in (key y) x ys b i)))
+  heads x y xs ys a b (inr i) (inr j) = absurd (order_own (key x) (numbers_total.laws.trans (key x) (key y) (key x) (above_in (key x) y xs a j) (above_in (key y) x ys b i)))
 
   tails : (x y z : X) (xs ys : List X) → Above key (key x) xs → x ≡ y → In z xs → In z (y ∷ ys) → In z ys
   tails x y z xs ys a e i (inl f) = absurd (not_own (key x) z (ap key (f ∙ sym e)) (above_in (key x) z xs a i))
@@ -67,7 +68,7 @@ module _ {X : Type 0} (key : X → List ℕ) where
   new_more x r y ys e (inl i) = inl (inr i)
   new_more x r y ys e (inr n) = inr (n.0, lacks_front (key r) y ys (λ q. greater_apart (key r) (key y) e (sym q)) n.1)
 
-  in_by : (x r y : X) (ys : List X) (o : Ordering) → order (key r) (key y) ≡ o → Ascends key (y ∷ ys) → (In x (insert key r ys) → New x r ys) → In x (by_rank o (r ∷ y ∷ ys) (y ∷ ys) (y ∷ insert key r ys)) → New x r (y ∷ ys)
+  in_by : (x r y : X) (ys : List X) (o : Ordering) → order (key r) (key y) ≡ o → Ascends key (y ∷ ys) → (In x (insert key r ys) → New x r ys) → In x (match_ordering o (r ∷ y ∷ ys) (y ∷ ys) (y ∷ insert key r ys)) → New x r (y ∷ ys)
   in_by x r y ys Less e a f i = ⊎_elim (λ q. inr (q, lacks_above (key r) (y ∷ ys) (e, above_less (key r) (key y) ys e a.0))) (λ j. inl j) i
   in_by x r y ys Equal e a f i = inl i
   in_by x r y ys Greater e a f i = ⊎_elim (λ q. inl (inl q)) (λ j. new_more x r y ys e (f j)) i
@@ -76,7 +77,7 @@ module _ {X : Type 0} (key : X → List ℕ) where
   in_insert x r [] a i = ⊎_elim (λ q. inr (q, λ h. absurd h.1)) (λ j. absurd j) i
   in_insert x r (y ∷ ys) a i = in_by x r y ys (order (key r) (key y)) refl a (in_insert x r ys a.1) i
 
-  stays_by : (x r y : X) (ys : List X) (o : Ordering) → (In x ys → In x (insert key r ys)) → In x (y ∷ ys) → In x (by_rank o (r ∷ y ∷ ys) (y ∷ ys) (y ∷ insert key r ys))
+  stays_by : (x r y : X) (ys : List X) (o : Ordering) → (In x ys → In x (insert key r ys)) → In x (y ∷ ys) → In x (match_ordering o (r ∷ y ∷ ys) (y ∷ ys) (y ∷ insert key r ys))
   stays_by x r y ys Less f i = inr i
   stays_by x r y ys Equal f i = i
   stays_by x r y ys Greater f (inl e) = inl e
@@ -86,7 +87,7 @@ module _ {X : Type 0} (key : X → List ℕ) where
   stays x r [] i = absurd i
   stays x r (y ∷ ys) i = stays_by x r y ys (order (key r) (key y)) (stays x r ys) i
 
-  comes_by : (r y : X) (ys : List X) (o : Ordering) → order (key r) (key y) ≡ o → (Has key (key r) (y ∷ ys) → ⊥) → ((Has key (key r) ys → ⊥) → In r (insert key r ys)) → In r (by_rank o (r ∷ y ∷ ys) (y ∷ ys) (y ∷ insert key r ys))
+  comes_by : (r y : X) (ys : List X) (o : Ordering) → order (key r) (key y) ≡ o → (Has key (key r) (y ∷ ys) → ⊥) → ((Has key (key r) ys → ⊥) → In r (insert key r ys)) → In r (match_ordering o (r ∷ y ∷ ys) (y ∷ ys) (y ∷ insert key r ys))
   comes_by r y ys Less e n f = inl refl
   comes_by r y ys Equal e n f = absurd (n (y, inl refl, sym (order_same (key r) (key y) e)))
   comes_by r y ys Greater e n f = inr (f (λ h. n (h.0, inr h.1, h.2)))
@@ -219,7 +220,7 @@ module _ {X : Type 0} (key : X → List ℕ) where
     }
 
   -- a key's place among rows that ascend tells whether one of them has it
-  placed_by : (k : List ℕ) (x : X) (xs : List X) (o : Ordering) → order k (key x) ≡ o → Ascends key (x ∷ xs) → (is_err (place order k (map key xs)) ≡ true → Has key k xs → ⊥) → is_err (by_rank o (Err 0) (Ok 0) (later (place order k (map key xs)))) ≡ true → Has key k (x ∷ xs) → ⊥
+  placed_by : (k : List ℕ) (x : X) (xs : List X) (o : Ordering) → order k (key x) ≡ o → Ascends key (x ∷ xs) → (is_err (place order k (map key xs)) ≡ true → Has key k xs → ⊥) → is_err (match_ordering o (Err 0) (Ok 0) (later (place order k (map key xs)))) ≡ true → Has key k (x ∷ xs) → ⊥
   placed_by k x xs Less e a f t h = lacks_above k (x ∷ xs) (e, above_less k (key x) xs e a.0) h
   placed_by k x xs Equal e a f t h = true≢false (sym t)
   placed_by k x xs Greater e a f t h = lacks_front k x xs (λ q. greater_apart k (key x) e (sym q)) (f (sym (later_err (place order k (map key xs))) ∙ t)) h
@@ -228,7 +229,7 @@ module _ {X : Type 0} (key : X → List ℕ) where
   lacks_placed k [] a t h = absurd h.1
   lacks_placed k (x ∷ xs) a t h = placed_by k x xs (order k (key x)) refl a (lacks_placed k xs a.1) t h
 
-  has_placed_by : (k : List ℕ) (x : X) (xs : List X) (o : Ordering) → order k (key x) ≡ o → (is_err (place order k (map key xs)) ≡ false → Has key k xs) → is_err (by_rank o (Err 0) (Ok 0) (later (place order k (map key xs)))) ≡ false → Has key k (x ∷ xs)
+  has_placed_by : (k : List ℕ) (x : X) (xs : List X) (o : Ordering) → order k (key x) ≡ o → (is_err (place order k (map key xs)) ≡ false → Has key k xs) → is_err (match_ordering o (Err 0) (Ok 0) (later (place order k (map key xs)))) ≡ false → Has key k (x ∷ xs)
   has_placed_by k x xs Less e f t = absurd (true≢false t)
   has_placed_by k x xs Equal e f t = (x, inl refl, sym (order_same k (key x) e))
   has_placed_by k x xs Greater e f t = let h = f (sym (later_err (place order k (map key xs))) ∙ t) in (h.0, inr h.1, h.2)

@@ -13,9 +13,6 @@ own_by Greater f e = true≢false (sym (ap is_lt e))
 pub order_own : (k : List ℕ) → order k k ≡ Less → ⊥
 order_own k e = own_by (order k k) ((lists_total nat_cmp_total).antisymm k k) e
 
-pub order_trans : (a b c : List ℕ) → order a b ≡ Less → order b c ≡ Less → order a c ≡ Less
-order_trans = (lists_total nat_cmp_total).trans
-
 pub order_flip : (a b : List ℕ) → order a b ≡ Greater → order b a ≡ Less
 order_flip a b e = (lists_total nat_cmp_total).antisymm b a ∙ ap ordering_reverse e
 

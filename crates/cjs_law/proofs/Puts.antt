@@ -1,6 +1,7 @@
 -- A row that takes the place of another of its key: the last of each key, kept as the first of the list turned round.
 use Rattle.std.proofs.Common.{◌≡◌, ℕ, ◌⊎◌, List, [], ◌∷◌, ◌++◌, Ordering, Less, Equal, Greater, sym, refl, ap, ◌∙◌, subst, inl, inr, ⊎_elim}
-use Rattle.table.specs.Table.{by_rank, put_row}
+use Rattle.std.specs.Ordering.{match_ordering}
+use Rattle.table.specs.Table.{put_row}
 use Rattle.text.specs.Reading.{order}
 use Rattle.text.proofs.Orders.{order_same}
 use Rattle.cjs_law.specs.Lists.{In, Lists, insert, insert_all}
@@ -22,7 +23,7 @@ module _ {X : Type 0} (key : X → List ℕ) where
   over_more x a y ys (inl q) = inl q
   over_more x a y ys (inr n) = inr (n.0, inr n.1)
 
-  in_by : (x a y : X) (ys : List X) (o : Ordering) → order (key a) (key y) ≡ o → Ascends key (y ∷ ys) → (In x (put a ys) → Over x a ys) → In x (by_rank o (a ∷ y ∷ ys) (a ∷ ys) (y ∷ put a ys)) → Over x a (y ∷ ys)
+  in_by : (x a y : X) (ys : List X) (o : Ordering) → order (key a) (key y) ≡ o → Ascends key (y ∷ ys) → (In x (put a ys) → Over x a ys) → In x (match_ordering o (a ∷ y ∷ ys) (a ∷ ys) (y ∷ put a ys)) → Over x a (y ∷ ys)
   in_by x a y ys Less e h f i = ⊎_elim (λ q. inl q)
       (λ j. inr ((λ q. not_own key (key a) x (sym q) (above_in key (key a) x (y ∷ ys) (e, above_less key (key a) (key y) ys e h.0) j)), j)) i
   in_by x a y ys Equal e h f i = ⊎_elim (λ q. inl q)
@@ -34,7 +35,7 @@ module _ {X : Type 0} (key : X → List ℕ) where
   in_put x a [] h i = ⊎_elim (λ q. inl q) (λ j. absurd j) i
   in_put x a (y ∷ ys) h i = in_by x a y ys (order (key a) (key y)) refl h (in_put x a ys h.1) i
 
-  own_by : (a y : X) (ys : List X) (o : Ordering) → In a (put a ys) → In a (by_rank o (a ∷ y ∷ ys) (a ∷ ys) (y ∷ put a ys))
+  own_by : (a y : X) (ys : List X) (o : Ordering) → In a (put a ys) → In a (match_ordering o (a ∷ y ∷ ys) (a ∷ ys) (y ∷ put a ys))
   own_by a y ys Less i = inl refl
   own_by a y ys Equal i = inl refl
   own_by a y ys Greater i = inr i
@@ -43,7 +44,7 @@ module _ {X : Type 0} (key : X → List ℕ) where
   own_put a [] = inl refl
   own_put a (y ∷ ys) = own_by a y ys (order (key a) (key y)) (own_put a ys)
 
-  stays_by : (x a y : X) (ys : List X) (o : Ordering) → order (key a) (key y) ≡ o → (key a ≡ key x → ⊥) → (In x ys → In x (put a ys)) → In x (y ∷ ys) → In x (by_rank o (a ∷ y ∷ ys) (a ∷ ys) (y ∷ put a ys))
+  stays_by : (x a y : X) (ys : List X) (o : Ordering) → order (key a) (key y) ≡ o → (key a ≡ key x → ⊥) → (In x ys → In x (put a ys)) → In x (y ∷ ys) → In x (match_ordering o (a ∷ y ∷ ys) (a ∷ ys) (y ∷ put a ys))
   stays_by x a y ys Less e n f i = inr i
   stays_by x a y ys Equal e n f (inl q) = absurd (n (order_same (key a) (key y) e ∙ ap key (sym q)))
   stays_by x a y ys Equal e n f (inr i) = inr i

@@ -1,22 +1,23 @@
 -- A name that is sought in the bindings.
-use Rattle.std.proofs.Common.{◌≡◌, ℕ, zero, suc, ◌+◌, ◌<◌, Bool, true, false, cond, List, [], ◌∷◌, map, length, get_or, Some, None, Option, Ok, Err, Result, Less, sym, refl, ap, ◌∙◌, inl, inr, ⊎_elim, arith}
-use Rattle.std.specs.Cmp.Lexicographic.{nat_list_cmp_total}
-use Rattle.std.specs.List.{AllPairs}
+use Rattle.std.proofs.Common.{◌≡◌, ℕ, Bool, true, false, cond, List, [], ◌∷◌, map, length, get_or, Some, None, Option, Ok, Err, Result, Ordering, Less, Equal, Greater, sym, refl, ap, ◌∙◌, inl, inr}
 use Rattle.std.specs.List.Sorted.{IsBinarySearchResult, IsSearchInRange}
-use Rattle.std.specs.Ordering.{is_lt, ordering_reverse}
+use Rattle.std.specs.Ordering.{match_ordering}
 use Rattle.std.specs.Result.{result_ok}
 use Rattle.std.specs.Str.{bytes_eq}
-use Rattle.std.proofs.lemmas.Bool.{cases_lt}
-use Rattle.std.proofs.lemmas.List.Sorted.{searchable_from_sorted}
 use Rattle.std.proofs.lemmas.Slice.Eq.{bytes_eq-Decides}
-use Rattle.table.specs.Table.{Ascends}
+use Rattle.table.specs.Table.{InOrder, later, place}
+use Rattle.table.specs.Totals.{numbers_total}
 use Rattle.table.specs.declared.binding.Binding.{Binding}
+use Rattle.table.proofs.Places.{found}
 use Rattle.table.proofs.Rising.{rows_rise}
 use Rattle.text.specs.Reading.{order}
+use Rattle.text.specs.declared.place.Place.{Place}
 use Rattle.text.proofs.Orders.{order_same}
 use Rattle.cjs_law.specs.Findings.{by_name}
 use Rattle.cjs_law.specs.Lists.{In}
-use Rattle.cjs_law.proofs.Order.{greater_apart, less_apart}
+use Rattle.cjs_law.proofs.Ascending.{Ascends, ascends_from}
+use Rattle.cjs_law.proofs.Listed.{above_in, above_less, not_own}
+use Rattle.cjs_law.proofs.Order.{greater_apart}
 use Rattle.cjs_rules.specs.Chain.{◌>>=◌}
 use Rattle.cjs_parse.specs.State.{look}
 
@@ -35,33 +36,31 @@ module _ (T : List ℕ) (key : List ℕ) where
   none_looked [] n = refl
   none_looked (y ∷ ys) n = ap (λ t. cond t (Some y.value) (look T ys key)) (not_same (by_name T y) (λ q. n y (inl refl) q)) ∙ none_looked ys (λ b i e. n b (inr i) e)
 
--- a name among bindings in the order of their names
-module _ (T : List ℕ) (key : List ℕ) where
-  abbrev Below : Binding → Binding → Type 0
-  Below x y = order (by_name T x) (by_name T y) ≡ Less
+-- what is bound at the place of a name among bindings that ascend by their names
+module _ (T : List ℕ) (key : List ℕ) (d : Binding) where
+  abbrev value_at : List Binding → Result ℕ ℕ → Option Place
+  value_at xs r = result_ok r >>= (λ i. Some (get_or xs i d).value)
 
-  looked_at : (xs : List Binding) (i : ℕ) (d : Binding) → AllPairs Below xs → i < length xs → by_name T (get_or xs i d) ≡ key → look T xs key ≡ Some (get_or xs i d).value
-  looked_at [] i d up l e = absurd (omega arith)
-  looked_at (x ∷ xs) zero d up l e = ap (λ t. cond t (Some x.value) (look T xs key)) (is_same T key (by_name T x) e)
-  looked_at (x ∷ xs) (suc i) d up l e =
-      let less : order (by_name T x) key ≡ Less = ap (order (by_name T x)) (sym e) ∙ up 0 (suc i) d (omega arith) l in
-      ap (λ t. cond t (Some x.value) (look T xs key)) (not_same T key (by_name T x) (less_apart (by_name T x) key less))
-      ∙ looked_at xs i d (λ j k d h m. up (suc j) (suc k) d (omega arith) (omega arith)) (omega arith) e
+  later_value : (x : Binding) (xs : List Binding) (p : Result ℕ ℕ) → value_at (x ∷ xs) (later p) ≡ value_at xs p
+  later_value x xs (Ok i) = refl
+  later_value x xs (Err i) = refl
 
-  nowhere : (xs : List Binding) → ((i : ℕ) (d : Binding) → i < length xs → by_name T (get_or xs i d) ≡ key → ⊥) → look T xs key ≡ None
-  nowhere [] n = refl
-  nowhere (x ∷ xs) n = ap (λ t. cond t (Some x.value) (look T xs key)) (not_same T key (by_name T x) (n 0 x (omega arith))) ∙ nowhere xs (λ i d l. n (suc i) d (omega arith))
+  looked_by : (x : Binding) (xs : List Binding) (o : Ordering) → order key (by_name T x) ≡ o → Ascends (by_name T) (x ∷ xs) → value_at xs (place order key (map (by_name T) xs)) ≡ look T xs key →
+      value_at (x ∷ xs) (match_ordering o (Err 0) (Ok 0) (later (place order key (map (by_name T) xs)))) ≡ look T (x ∷ xs) key
+  looked_by x xs Less e a h = sym (none_looked T key (x ∷ xs) (λ b i q. not_own (by_name T) key b q (above_in (by_name T) key b (x ∷ xs) (e, above_less (by_name T) key (by_name T x) xs e a.0) i)))
+  looked_by x xs Equal e a h = ap (λ t. cond t (Some x.value) (look T xs key)) (sym (is_same T key (by_name T x) (sym (order_same key (by_name T x) e))))
+  looked_by x xs Greater e a h =
+      later_value x xs (place order key (map (by_name T) xs)) ∙ h
+      ∙ ap (λ t. cond t (Some x.value) (look T xs key)) (sym (not_same T key (by_name T x) (λ q. greater_apart key (by_name T x) e (sym q))))
 
-  module _ (xs : List Binding) (up : AllPairs Below xs) where
-    value_at : (d : Binding) (r : Result ℕ ℕ) → IsSearchInRange r (length xs) → IsBinarySearchResult (λ b. order (by_name T b) key) xs r → (result_ok r >>= (λ i. Some (get_or xs i d).value)) ≡ look T xs key
-    value_at d (Ok i) within at = sym (looked_at xs i d up within (order_same (by_name T (get_or xs i d)) key (at d)))
-    value_at d (Err i) within split =
-        let parts = split (searchable_from_sorted nat_list_cmp_total (by_name T) xs key (λ i d _ h. ap is_lt (nat_list_cmp_total.antisymm (by_name T (get_or xs (i + 1) d)) (by_name T (get_or xs i d)) ∙ ap ordering_reverse (up i (i + 1) d (omega arith) h)))) in
-        sym (nowhere xs (λ j d l. ⊎_elim (λ b. less_apart (by_name T (get_or xs j d)) key (parts.0 j d (omega arith) b)) (λ b. greater_apart (by_name T (get_or xs j d)) key (parts.1 j d b l)) (cases_lt j i)))
+  looked : (xs : List Binding) → Ascends (by_name T) xs → value_at xs (place order key (map (by_name T) xs)) ≡ look T xs key
+  looked [] a = refl
+  looked (x ∷ xs) a = looked_by x xs (order key (by_name T x)) refl a (looked xs a.1)
 
 -- what a binary search for a name comes to among rows that are in order
 pub found_value :
-    (T key : List ℕ) (xs : List Binding) (d : Binding) (r : Result ℕ ℕ) → Ascends order (map (by_name T) xs) → IsSearchInRange r (length xs) → IsBinarySearchResult (λ b. order (by_name T b) key) xs r →
+    (T key : List ℕ) (xs : List Binding) (d : Binding) (r : Result ℕ ℕ) → InOrder order (by_name T) xs → IsSearchInRange r (length xs) → IsBinarySearchResult (λ b. order (by_name T b) key) xs r →
     (o : Option ℕ) → o ≡ result_ok r → (o >>= (λ i. Some (get_or xs i d).value)) ≡ look T xs key
-found_value T key xs d r up within at o e =
-    ap (λ o. o >>= (λ i. Some (get_or xs i d).value)) e ∙ value_at T key xs (rows_rise order (by_name T) xs up) d r within at
+found_value T key xs d r sorted within at o e =
+    ap (λ o. o >>= (λ i. Some (get_or xs i d).value)) (e ∙ ap result_ok (found order (by_name T) key numbers_total xs (rows_rise order (by_name T) xs sorted.up) r within at))
+    ∙ looked T key d xs (ascends_from (by_name T) xs sorted)

@@ -99,6 +99,10 @@ onward_done one v w all rest o e = (
 asked_as : (one two : Node → Option Event) (f g : Forest) (v w : Walk) (r : Result (Unit {0}) Full) → one ≡ two → f ≡ g → MovesOn v (each one f) r w → MovesOn v (each two g) r w
 asked_as one two f g v w r e h m = subst (λ h. MovesOn v (each two h) r w) h (subst (λ k. MovesOn v (each k f) r w) e m)
 
+-- what such a loop keeps, whose question is asked of the text section and of each child
+abbrev pub Keeps : (List ℕ → Node → Option Event) → Walk → Walk → Children → Children → Type 0
+Keeps one v w first rest = (rest.tree.now ≡ first.tree.now) × Onward (one (tree_text first.tree.now)) v w (left first) (left rest)
+
 -- a question that is asked of the text section and of each child of a node o
 module _ (one : List ℕ → Node → Option Event) (v : Walk) (first : Children) where
   abbrev asks : Node → Option Event
@@ -108,9 +112,9 @@ module _ (one : List ℕ → Node → Option Event) (v : Walk) (first : Children
   asked s t n e q c is = is ∙ ap (λ (k : Tree). one (tree_text k) (here n)) (c.tree ∙ q)
 
   pub each_step :
-      (w u : Walk) (s t : Children) (n : TreeNode) (e : Option Event) → s.tree.now ≡ first.tree.now → Onward asks v w (left first) (left s) → Comes s n t → e ≡ one (section n) (here n) →
-      Took w (once e) u → Onward asks v u (left first) (left t)
-  each_step w u s t n e q g c is m = onward_step asks v w u (left first) s t n e g c (asked s t n e q c is) m
+      (w u : Walk) (s t : Children) (n : TreeNode) (e : Option Event) → Keeps one v w first s → Comes s n t → e ≡ one (section n) (here n) →
+      Took w (once e) u → Keeps one v u first t
+  each_step w u s t n e k c is m = (c.same ∙ k.0, onward_step asks v w u (left first) s t n e k.1 c (asked s t n e k.0 c is) m)
 
   module _ (o : TreeNode) (items : Children) (given : first ≡ items) (tree : items.tree.now ≡ o.tree.now) (kids : left items ≡ children (tree_rows o.tree.now) o.row) where
     of_all : (u : Walk) (r : Result (Unit {0}) Full) → MovesOn v (each asks (left first)) r u → MovesOn v (each (one (section o)) (children (tree_rows o.tree.now) o.row)) r u
@@ -118,11 +122,11 @@ module _ (one : List ℕ → Node → Option Event) (v : Walk) (first : Children
         asked_as asks (one (section o)) (left first) (children (tree_rows o.tree.now) o.row) v u r (ap (λ (k : Tree). one (tree_text k)) (ap (λ (it : Children). it.tree.now) given ∙ tree)) (ap left given ∙ kids) m
 
     pub each_stuck :
-        (w u : Walk) (s t : Children) (n : TreeNode) (e : Option Event) (r : Result (Unit {0}) Full) → s.tree.now ≡ first.tree.now → Onward asks v w (left first) (left s) → Comes s n t → e ≡ one (section n) (here n) → is_err r ≡ true →
+        (w u : Walk) (s t : Children) (n : TreeNode) (e : Option Event) (r : Result (Unit {0}) Full) → Keeps one v w first s → Comes s n t → e ≡ one (section n) (here n) → is_err r ≡ true →
         Halted w (once e) u → MovesOn v (each (one (section o)) (children (tree_rows o.tree.now) o.row)) r u
-    each_stuck w u s t n e r q g c is err m =
-        let stuck = onward_stuck asks v w u (left first) s t n e g c (asked s t n e q c is) m in
+    each_stuck w u s t n e r k c is err m =
+        let stuck = onward_stuck asks v w u (left first) s t n e k.1 c (asked s t n e k.0 c is) m in
         of_all u r (stuck.0, stuck.1, stuck_by v.text.now v.tables.now (each asks (left first)) u.tables.now r err stuck.2)
 
-    pub each_done : (w : Walk) (rest : Forest) → Onward asks v w (left first) rest → rest ≡ nil → MovesOn v (each (one (section o)) (children (tree_rows o.tree.now) o.row)) (Ok tt) w
-    each_done w rest g e = of_all w (Ok tt) (onward_done asks v w (left first) rest g e)
+    pub each_done : (w : Walk) (s : Children) → Keeps one v w first s → left s ≡ nil → MovesOn v (each (one (section o)) (children (tree_rows o.tree.now) o.row)) (Ok tt) w
+    each_done w s k e = of_all w (Ok tt) (onward_done asks v w (left first) (left s) k.1 e)

@@ -1,5 +1,6 @@
 -- The specifier that the arguments of a copying helper's call require, argument by argument.
-use Rattle.std.proofs.Common.{◌≡◌, ℕ, Bool, true, false, not, ◌&&◌, List, Option, refl, ap}
+use Rattle.std.proofs.Common.{◌≡◌, ℕ, not, List, Option, refl, ap}
+use Rattle.std.proofs.Math.Bool.{and_comm}
 use Rattle.kinds.specs.Kinds.{spread}
 use Rattle.text.specs.declared.place.Place.{Place}
 use Rattle.tree.specs.Forest.{Forest, nil, node}
@@ -15,15 +16,9 @@ by_first T bound args = do
   none_or_exports T (past args)
   required_or_bound T bound a
 
-and_turned : (a b : Bool) → (a && b) ≡ (b && a)
-and_turned true true = refl
-and_turned true false = refl
-and_turned false true = refl
-and_turned false false = refl
-
 pub require_arg_by_first : (T : List ℕ) (bound : List ℕ → Option Place) (args : Forest) → by_first T bound args ≡ get_export_require_arg T bound args
 require_arg_by_first T bound nil = refl
 require_arg_by_first T bound (node j r ks nil) = refl
 require_arg_by_first T bound (node j r ks (node k s ls rest)) =
     ap (λ b. not (any_of_kind spread (node j r ks (node k s ls rest))) >> (b >> required_or_bound T bound (record { row = r; kids = ks })))
-    (and_turned (is_exports_expr T (record { row = s; kids = ls })) (has_count 0 rest))
+    (and_comm (is_exports_expr T (record { row = s; kids = ls })) (has_count 0 rest))

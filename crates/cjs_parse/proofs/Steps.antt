@@ -3,7 +3,7 @@ use Rattle.std.proofs.Common.{◌≡◌, ℕ, ◌≤◌, Bool, true, false, cond
 use Rattle.std.proofs.lemmas.Bool.{false_from_ne_true}
 use Rattle.std.proofs.lemmas.List.{length-take-le}
 use Rattle.table.specs.Table.{Rest}
-use Rattle.table.specs.Kind.{Inserts, Leaves, Ordered, Puts}
+use Rattle.table.specs.Kind.{Enters, Inserts, Kind, Leaves, Ordered, Puts}
 use Rattle.table.specs.Kinds.{places, bindings as binding_kind}
 use Rattle.table.specs.declared.binding.Binding.{Binding}
 use Rattle.table.specs.declared.table.Full.{Full}
@@ -46,43 +46,50 @@ entered T v w e s l k is =
       sound = s;
     }
 
--- a row that went into one of the tables
+-- a row that went into one of the tables: that table is to hold ys then, and `put` makes the four tables of what stands in its place
 module _ (T : List ℕ) (v : FindingsTables) where
+  module _ {X : Type 0} (k : Kind X) (ys : List X) (was : OrderedTable X) (e : Event) (put : OrderedTable X → FindingsTables)
+      (sound : (t : OrderedTable X) → Ordered k T t → Sound T (put t)) (lenders : (t : OrderedTable X) → t.rows.ghost_name ≡ was.rows.ghost_name → SameLenders v (put t))
+      (room : (t : OrderedTable X) → length t.rows.now ≡ length was.rows.now → room_of (put t) ≡ room_of v) (holds : (t : OrderedTable X) → take t.len t.rows.now ≡ ys → state (put t) ≡ apply T e (state v)) where
+    went_in : (t : OrderedTable X) (r : Result Bool Full) → is_ok r ≡ true → Enters k ys was r t → Ordered k T t → Moved T v (e ∷ []) (put t)
+    went_in t (Ok new) q i o = entered T v (put t) e (sound t o) (lenders t i.lender) (room t (length_left (stored_left i.rows) i.rows.room)) (holds t (take_left (stored_left i.rows)))
+    went_in t (Err x) q i o = absurd (true≢false (sym q))
+
   pub exported : (p : Place) (t : OrderedTable Place) (r : Result Bool Full) → Sound T v → is_ok r ≡ true → Inserts places T p v.exports r t → Ordered places T t → Moved T v (Export p ∷ []) (record { bindings = v.bindings; exports = t; reexports = v.reexports; unsafes = v.unsafes })
-  exported p t (Ok new) h q i o =
-      entered T v (record { bindings = v.bindings; exports = t; reexports = v.reexports; unsafes = v.unsafes }) (Export p)
-      (record { bindings = h.bindings; exports = o; reexports = h.reexports; unsafes = h.unsafes })
-      (record { bindings = refl; exports = i.lender; reexports = refl; unsafes = refl })
-      (λ n. record { bindings = (room_of v).bindings; exports = length_left (stored_left i.rows) i.rows.room n; reexports = (room_of v).reexports; unsafes = (room_of v).unsafes })
-      (λ n. record { bindings = (state v).bindings; exports = take_left (stored_left i.rows) n; reexports = (state v).reexports; unsafes = (state v).unsafes })
-  exported p t (Err x) h q i o = absurd (true≢false (sym q))
+  exported p t r h q i o =
+      went_in places _ v.exports (Export p) (λ t. record { bindings = v.bindings; exports = t; reexports = v.reexports; unsafes = v.unsafes })
+      (λ t o. record { bindings = h.bindings; exports = o; reexports = h.reexports; unsafes = h.unsafes })
+      (λ t l. record { bindings = refl; exports = l; reexports = refl; unsafes = refl })
+      (λ t k n. record { bindings = (room_of v).bindings; exports = k n; reexports = (room_of v).reexports; unsafes = (room_of v).unsafes })
+      (λ t k n. record { bindings = (state v).bindings; exports = k n; reexports = (state v).reexports; unsafes = (state v).unsafes })
+      t r q i o
 
   pub reexported : (p : Place) (t : OrderedTable Place) (r : Result Bool Full) → Sound T v → is_ok r ≡ true → Inserts places T p v.reexports r t → Ordered places T t → Moved T v (Reexport p ∷ []) (record { bindings = v.bindings; exports = v.exports; reexports = t; unsafes = v.unsafes })
-  reexported p t (Ok new) h q i o =
-      entered T v (record { bindings = v.bindings; exports = v.exports; reexports = t; unsafes = v.unsafes }) (Reexport p)
-      (record { bindings = h.bindings; exports = h.exports; reexports = o; unsafes = h.unsafes })
-      (record { bindings = refl; exports = refl; reexports = i.lender; unsafes = refl })
-      (λ n. record { bindings = (room_of v).bindings; exports = (room_of v).exports; reexports = length_left (stored_left i.rows) i.rows.room n; unsafes = (room_of v).unsafes })
-      (λ n. record { bindings = (state v).bindings; exports = (state v).exports; reexports = take_left (stored_left i.rows) n; unsafes = (state v).unsafes })
-  reexported p t (Err x) h q i o = absurd (true≢false (sym q))
+  reexported p t r h q i o =
+      went_in places _ v.reexports (Reexport p) (λ t. record { bindings = v.bindings; exports = v.exports; reexports = t; unsafes = v.unsafes })
+      (λ t o. record { bindings = h.bindings; exports = h.exports; reexports = o; unsafes = h.unsafes })
+      (λ t l. record { bindings = refl; exports = refl; reexports = l; unsafes = refl })
+      (λ t k n. record { bindings = (room_of v).bindings; exports = (room_of v).exports; reexports = k n; unsafes = (room_of v).unsafes })
+      (λ t k n. record { bindings = (state v).bindings; exports = (state v).exports; reexports = k n; unsafes = (state v).unsafes })
+      t r q i o
 
   pub marked_unsafe : (p : Place) (t : OrderedTable Place) (r : Result Bool Full) → Sound T v → is_ok r ≡ true → Inserts places T p v.unsafes r t → Ordered places T t → Moved T v (Unsafe p ∷ []) (record { bindings = v.bindings; exports = v.exports; reexports = v.reexports; unsafes = t })
-  marked_unsafe p t (Ok new) h q i o =
-      entered T v (record { bindings = v.bindings; exports = v.exports; reexports = v.reexports; unsafes = t }) (Unsafe p)
-      (record { bindings = h.bindings; exports = h.exports; reexports = h.reexports; unsafes = o })
-      (record { bindings = refl; exports = refl; reexports = refl; unsafes = i.lender })
-      (λ n. record { bindings = (room_of v).bindings; exports = (room_of v).exports; reexports = (room_of v).reexports; unsafes = length_left (stored_left i.rows) i.rows.room n })
-      (λ n. record { bindings = (state v).bindings; exports = (state v).exports; reexports = (state v).reexports; unsafes = take_left (stored_left i.rows) n })
-  marked_unsafe p t (Err x) h q i o = absurd (true≢false (sym q))
+  marked_unsafe p t r h q i o =
+      went_in places _ v.unsafes (Unsafe p) (λ t. record { bindings = v.bindings; exports = v.exports; reexports = v.reexports; unsafes = t })
+      (λ t o. record { bindings = h.bindings; exports = h.exports; reexports = h.reexports; unsafes = o })
+      (λ t l. record { bindings = refl; exports = refl; reexports = refl; unsafes = l })
+      (λ t k n. record { bindings = (room_of v).bindings; exports = (room_of v).exports; reexports = (room_of v).reexports; unsafes = k n })
+      (λ t k n. record { bindings = (state v).bindings; exports = (state v).exports; reexports = (state v).reexports; unsafes = k n })
+      t r q i o
 
   pub bound : (name value : Place) (t : OrderedTable Binding) (r : Result Bool Full) → Sound T v → is_ok r ≡ true → Puts binding_kind T (record { name = name; value = value }) v.bindings r t → Ordered binding_kind T t → Moved T v (Bind name value ∷ []) (record { bindings = t; exports = v.exports; reexports = v.reexports; unsafes = v.unsafes })
-  bound name value t (Ok new) h q i o =
-      entered T v (record { bindings = t; exports = v.exports; reexports = v.reexports; unsafes = v.unsafes }) (Bind name value)
-      (record { bindings = o; exports = h.exports; reexports = h.reexports; unsafes = h.unsafes })
-      (record { bindings = i.lender; exports = refl; reexports = refl; unsafes = refl })
-      (λ n. record { bindings = length_left (stored_left i.rows) i.rows.room n; exports = (room_of v).exports; reexports = (room_of v).reexports; unsafes = (room_of v).unsafes })
-      (λ n. record { bindings = take_left (stored_left i.rows) n; exports = (state v).exports; reexports = (state v).reexports; unsafes = (state v).unsafes })
-  bound name value t (Err x) h q i o = absurd (true≢false (sym q))
+  bound name value t r h q i o =
+      went_in binding_kind _ v.bindings (Bind name value) (λ t. record { bindings = t; exports = v.exports; reexports = v.reexports; unsafes = v.unsafes })
+      (λ t o. record { bindings = o; exports = h.exports; reexports = h.reexports; unsafes = h.unsafes })
+      (λ t l. record { bindings = l; exports = refl; reexports = refl; unsafes = refl })
+      (λ t k n. record { bindings = k n; exports = (room_of v).exports; reexports = (room_of v).reexports; unsafes = (room_of v).unsafes })
+      (λ t k n. record { bindings = k n; exports = (state v).exports; reexports = (state v).reexports; unsafes = (state v).unsafes })
+      t r q i o
 
 -- tables that have no room for what the event asks for are stuck
 pub no_room : (T : List ℕ) (v w : FindingsTables) (e : Event) (r : Result (Unit {0}) Full) → is_err r ≡ true → SameLenders v w → room_of w ≡ room_of v → (Fits (room_of v) (apply T e (state v)) → ⊥) → Moves T v (e ∷ []) r w

@@ -16,7 +16,7 @@ use tree::Tree;
 /// Walks over the nodes and enters what they ask for in empty tables. It is refused at the row at which a table has no
 /// free row.
 // `Sound` is asked: a method of `Walk`, whose invariant it is, would ask in its place that its text is the tree's.
-fn walk<'a>(tables: &mut FindingsTables, tree: &'a Tree<'a>) -> Result<(), FindingsFault>
+fn walk(tables: &mut FindingsTables, tree: &Tree) -> Result<(), FindingsFault>
     requires sound { Sound (tree_text tree.now) tables.old }
     requires empty { state tables.old ≡ nothing }
     ensures { Ends (tree_module tree.now) (tree_text tree.now) (tree_rows tree.now) tables.old result tables.new }
@@ -27,6 +27,7 @@ fn walk<'a>(tables: &mut FindingsTables, tree: &'a Tree<'a>) -> Result<(), Findi
     let visited = Visited { tree, next: 0 };
     for node in visited {
         let row = node.row();
+        // The refusal as in the other analysis: a shared function would be longer.
         walk.visit(node)
             .map_err(|_| FindingsFault::Full { module, row })?;
     }

@@ -23,6 +23,8 @@ impl Bindings<'_> {
     pub(crate) fn bound(self, name: Node) -> Option<Place>
         ensures { result ≡ bound_in self.entry (text_of (section name.entry) (here name.entry)) }
     {
+        // The order of bindings stands here beside their `Row`: `OrderedTable::find` compares rows, and a row made up
+        // for the search would have a value that nobody gave.
         let sought = name.text();
         let found = self
             .rows

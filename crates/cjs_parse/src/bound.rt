@@ -1,4 +1,5 @@
 //! Require values, and what names are bound to.
+// Functions, as the ported source has them: the node is the subject, and the bindings are asked for a name.
 ghost use Rattle.std.specs.Prelude.{◌≡◌};
 ghost use Rattle.cjs_parse.specs.Bound.{bound_in, key_name};
 ghost use Rattle.cjs_rules.specs.Nodes.{Finds, any_of_kind, here, section};

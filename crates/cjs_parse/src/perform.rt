@@ -24,8 +24,7 @@ fn get_assign_right<'t, 'a>(assign: Node<'t, 'a>) -> Option<Node<'t, 'a>>
     if assign.is_marked() {
         return None;
     }
-    let (_target, right) = assign.first_two()?;
-    Some(right)
+    assign.first_two().map(|(_target, right)| right)
 }
 
 impl Walk<'_, '_, '_> {
@@ -55,6 +54,8 @@ impl Walk<'_, '_, '_> {
     fn visit_exports_right_expr(&mut self, right: Node) -> Result<(), Full>
         ensures { MovesOn self.old (visit_exports_right_expr (section right.entry) (here right.entry).row (here right.entry).kids) result self.new }
     {
+        // `map_or` for the inner `match` was tried: its closure and this function are a cycle of two measures, and what
+        // the closure leaves of the walk has no name that a proof may cite.
         match right.kind() {
             Kind::Assign => match get_assign_right(right) {
                 Some(inner) => self.visit_exports_right_expr(inner),

@@ -1,4 +1,5 @@
 //! What each node that the walk acts at asks for.
+// Functions, as the ported source has them: the node is the subject, and the bindings are asked for a name.
 ghost use Rattle.std.specs.Prelude.{◌≡◌};
 ghost use Rattle.cjs_law.specs.Events.{export_if, visit_call_expr, visit_declarator, visit_export_call};
 ghost use Rattle.cjs_law.specs.Events.{visit_exports_call, visit_member_target, visit_object_define, visit_prop};
@@ -50,6 +51,7 @@ fn export_if(safe: bool, place: Place) -> Event
 fn visit_object_define(bindings: Bindings, call: Node) -> Option<Event>
     ensures { result ≡ of_two 2 (visit_object_define (section call.entry) (bound_in bindings.entry)) (here call.entry).kids }
 {
+    // `is_object_define` takes the first four children too: a method for four would serve these two alone.
     let mut parts = call.children();
     let _callee = parts.next()?;
     let _object = parts.next()?;

@@ -24,19 +24,20 @@ fn is_skipped(node: Node) -> bool
     node.is(Kind::Assign) && node.is_marked()
 }
 
-/// The row that the walk comes to after row j.
+/// The row that the walk comes to after a node.
 #[tactic(auto, using(tree::proofs::Split::few_rows))]
-fn next_row(tree: &Tree, j: usize) -> usize
-    requires { j < length (tree_rows tree.now) }
-    ensures { result ≡ after (tree_rows tree.now) j }
+fn next_row(node: Node) -> usize
+    requires { node.row < length (tree_rows node.tree.now) }
+    ensures { result ≡ after (tree_rows node.entry.tree.now) node.entry.row }
 {
-    if is_skipped(tree.node(j)) {
-        tree.row(j).end as usize
+    if is_skipped(node) {
+        node.end()
     } else {
-        j + 1
+        node.row() + 1
     }
 }
 
+/// The next node that the walk comes to, or none past the rows.
 impl<'a> Iterator for Visited<'a> {
     type Item = Node<'a, 'a>;
 
@@ -49,7 +50,8 @@ impl<'a> Iterator for Visited<'a> {
         if row >= self.tree.count() {
             return None;
         }
-        self.next = next_row(self.tree, row);
-        Some(self.tree.node(row))
+        let node = self.tree.node(row);
+        self.next = next_row(node);
+        Some(node)
     }
 }

@@ -18,7 +18,7 @@ pub(crate) struct Walk<'w, 't, 'a> {
     ghost sound: { Sound text.now tables.now },
 }
 
-// The helpers of the ported source stand apart, under their names.
+// The methods that add an event differ in their table: they stand apart as in the ported source.
 impl Walk<'_, '_, '_> {
     ghost use Rattle.std.specs.Prelude.{◌≡◌, [], ◌∷◌};
     ghost use Rattle.cjs_law.specs.declared.event.Event.TheVariants.{Bind, Export, Reexport, Replace, Unsafe};

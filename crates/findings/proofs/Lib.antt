@@ -1,2 +1,3 @@
 pub mod Telling
+mod Asking
 pub mod Leaving

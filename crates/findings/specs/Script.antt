@@ -1,5 +1,5 @@
 -- The script test: whether a program is treated as a script.
-use Rattle.std.specs.Prelude.{◌≡◌, ℕ, ◌<◌, Bool, true, false, cond, not, ◌⊎◌, List, [], ◌∷◌, ◌==◌, codes}
+use Rattle.std.specs.Prelude.{◌≡◌, ℕ, ◌<◌, Bool, true, false, cond, not, ◌⊎◌, List, [], ◌∷◌, ◌==◌, Some, None, Option, codes}
 use Rattle.findings.specs.declared.parsed_source.ProgramKind.{ProgramKind}
 use Rattle.findings.specs.declared.parsed_source.ProgramKind.TheVariants.{Module, Script}
 use Rattle.kinds.specs.Kinds.{«import», export_all, export_decl, export_default, export_named, ts_export_assignment, ts_import_equals}
@@ -20,6 +20,10 @@ shows_module kind = among («import» ∷ export_all ∷ export_decl ∷ export_
 -- a child of these kinds shows a script
 abbrev pub shows_script : ℕ → Bool
 shows_script kind = among (ts_import_equals ∷ ts_export_assignment ∷ []) kind
+
+-- what a child of a kind shows, where it tells: that it is a script, or that it is none
+abbrev pub shown : ℕ → Option Bool
+shown kind = cond (shows_module kind) (Some false) (cond (shows_script kind) (Some true) None)
 
 -- the first child that shows one of the two answers; where none does, it is no script
 abbrev pub first_shows : Forest → Bool

@@ -1,6 +1,8 @@
 //! The program that a tree holds, and the script test.
 ghost use Rattle.std.specs.Prelude.{◌≡◌, Some};
-ghost use Rattle.findings.specs.Script.{FirstTellingChildDecides, first_shows, is_script, kind_word, program_kind};
+ghost use Rattle.findings.specs.Script.{FirstTellingChildDecides, first_shows, is_script};
+ghost use Rattle.findings.specs.Script.{kind_word, program_kind, shown};
+ghost use Rattle.kinds.specs.Number.{number};
 ghost use Rattle.tree.specs.Forest.{children};
 ghost use Rattle.tree.specs.Subject.{tree_rows};
 
@@ -34,6 +36,21 @@ impl fmt::Display for ProgramKind {
     }
 }
 
+/// Whether a child of a kind shows a script, where it tells.
+fn shows(kind: Kind) -> Option<bool>
+    ensures { result ≡ shown (number kind) }
+{
+    match kind {
+        Kind::Import
+        | Kind::ExportAll
+        | Kind::ExportDecl
+        | Kind::ExportNamed
+        | Kind::ExportDefault => Some(false),
+        Kind::TsImportEquals | Kind::TsExportAssignment => Some(true),
+        _ => None,
+    }
+}
+
 impl<'a> ProgramRef<'a> {
     /// The program of a tree.
     pub fn new(tree: &'a Tree<'a>) -> Self
@@ -46,8 +63,7 @@ impl<'a> ProgramRef<'a> {
     pub fn tree(&self) -> &'a Tree<'a>
         ensures { result.now ≡ self.now.tree.now }
     {
-        let tree = self.tree;
-        tree
+        self.tree
     }
 
     /// The node at which the program stands.
@@ -55,8 +71,7 @@ impl<'a> ProgramRef<'a> {
         ensures tree { result.tree.now ≡ self.now.tree.now }
         ensures row { result.row ≡ 0 }
     {
-        let tree = self.tree;
-        tree.node(0)
+        self.tree.node(0)
     }
 
     /// Whether it is a module or a script, by the mark of row 0.
@@ -86,17 +101,9 @@ impl<'a> ProgramRef<'a> {
     fn children_show_script(&self) -> bool
         ensures { result ≡ first_shows (children (tree_rows self.now.tree.now) 0) }
     {
-        for child in self.root().children() {
-            match child.kind() {
-                Kind::Import
-                | Kind::ExportAll
-                | Kind::ExportDecl
-                | Kind::ExportNamed
-                | Kind::ExportDefault => return false,
-                Kind::TsImportEquals | Kind::TsExportAssignment => return true,
-                _ => {}
-            }
-        }
-        false
+        self.root()
+            .children()
+            .find_map(|child| shows(child.kind()))
+            .unwrap_or(false)
     }
 }

@@ -6,8 +6,7 @@ use fault::{Fault, Layer};
 
 /// A findings table had no free row for a new entry: the module that the tree belongs to, and the row at which the
 /// analysis stood.
-// An enum, of one case so far, as the refusals of the other layers are: callers match on it, and a later refusal is a
-// case more.
+// An enum, of one case so far, as `TreeFault` is: callers match on it, and a later refusal is a case more.
 #[derive(Clone, Copy, PartialEq, Eq, Debug)]
 pub enum FindingsFault {
     Full { module: u32, row: usize },

@@ -5,6 +5,8 @@ use table::{Binding, OrderedTable};
 use text::Place;
 
 /// Tables of bindings, exports, re-exports and unsafe texts. They may hold anything before an analysis.
+// `lines::Lists` has the same four fields, of lent lists. One struct for both would have to stand in the crate that
+// prints it, and the tables would then come from there.
 #[derive(Drop)]
 pub struct FindingsTables<'t> {
     pub bindings: OrderedTable<'t, Binding>,

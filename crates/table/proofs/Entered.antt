@@ -1,12 +1,13 @@
 -- A table after a row was entered: by its place among the rows that are held, and then with the rest.
 use Rattle.std.proofs.Common.{◌≡◌, ℕ, ◌+◌, ◌-◌, ◌<◌, ◌≤◌, Bool, true, false, List, [], ◌∷◌, ◌++◌, map, length, get_or, take, drop, set, replicate, Ok, Err, Result, Ordering, Less, Equal, Greater, sym, refl, ap, ◌∙◌, subst, arith, lt-ltb}
 use Rattle.std.specs.List.{insert}
+use Rattle.std.specs.Ordering.{match_ordering}
 use Rattle.std.proofs.lemmas.Bool.{le-ltb}
 use Rattle.std.proofs.lemmas.List.{length-take-le, length-set, set-append_left, length-append, length-replicate, take-append-drop, drop-drop, drop-replicate, take_at, drop_at, get_or-take}
 use Rattle.std.proofs.lemmas.List.Edits.{length-insert}
 use Rattle.table.specs.Kind.{Holds, Kind}
 use Rattle.table.specs.Order.{TotalOrder}
-use Rattle.table.specs.Table.{by_rank, later, place, Entered, InOrder, Left, enter_row, padded, Rest, Stored}
+use Rattle.table.specs.Table.{later, place, Entered, InOrder, Left, enter_row, padded, Rest, Stored}
 use Rattle.table.proofs.Rising.{ordered_entered}
 
 module _ {X : Type 0} (pick : X → X → X) (r : X) where
@@ -15,7 +16,7 @@ module _ {X : Type 0} (pick : X → X → X) (r : X) where
   Shaped xs ys (Ok i) = ys ≡ set xs i (pick r (get_or xs i r))
   Shaped xs ys (Err i) = ys ≡ insert xs i r
 
-  shaped_by : (x : X) (xs ys : List X) (a : Ordering) (p : Result ℕ ℕ) → Shaped xs ys p → Shaped (x ∷ xs) (by_rank a (r ∷ x ∷ xs) (pick r x ∷ xs) (x ∷ ys)) (by_rank a (Err 0) (Ok 0) (later p))
+  shaped_by : (x : X) (xs ys : List X) (a : Ordering) (p : Result ℕ ℕ) → Shaped xs ys p → Shaped (x ∷ xs) (match_ordering a (r ∷ x ∷ xs) (pick r x ∷ xs) (x ∷ ys)) (match_ordering a (Err 0) (Ok 0) (later p))
   shaped_by x xs ys Less p h = refl
   shaped_by x xs ys Equal p h = refl
   shaped_by x xs ys Greater (Ok i) h = ap (λ l. x ∷ l) h
@@ -76,10 +77,6 @@ module _ {X : Type 0} {z : X} {cap : ℕ} {ys : List X} {m : ℕ} {after : List 
 -- what was stored is left, and there was room for it
 pub stored_left : {X : Type 0} {z : X} {n : ℕ} {rows ys : List X} {new : Bool} {m : ℕ} {after : List X} → Stored z n rows ys new m after → Left z (length rows) ys m after
 stored_left s = record { len_is = s.len_is; rows_is = s.rows_is }
-
--- a table in which nothing is left holds, whatever the text
-pub nothing_holds : {X : Type 0} (k : Kind X) (text : List ℕ) {cap n : ℕ} {rows : List X} → Left k.zero cap [] n rows → Holds k text n rows
-nothing_holds k text l = record { ordered = rw (take_left l) (record { up = λ i j d h b. absurd (omega arith) }); rest = rest_left l (omega arith) }
 
 module _ {X : Type 0} (pick : X → X → X) {k : Kind X} {text : List ℕ} {n : ℕ} {rows : List X} (held : Holds k text n rows) (t : TotalOrder k.order) (kept : (r x : X) → k.key text r ≡ k.key text x → k.key text (pick r x) ≡ k.key text x) (r : X) where
   abbrev Left_in : {E : Type 0} → Result Bool E → ℕ → List X → Type 0

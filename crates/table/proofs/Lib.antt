@@ -1,4 +1,4 @@
-mod Places
+pub mod Places
 pub mod Rising
 pub mod Entered
 mod Removes

@@ -2,24 +2,24 @@
 use Rattle.std.proofs.Common.{◌≡◌, ℕ, zero, suc, ◌+◌, ◌<◌, ◌≤◌, List, [], ◌∷◌, map, length, get_or, Ok, Err, Result, Ordering, Less, Equal, Greater, sym, ap, ◌∙◌, subst, arith}
 use Rattle.std.specs.List.{AllPairs}
 use Rattle.std.specs.List.Sorted.{IsBinarySearchResult, IsSearchInRange, IsSortedBy}
-use Rattle.std.specs.Ordering.{is_lt, ordering_reverse}
+use Rattle.std.specs.Ordering.{is_lt, match_ordering, ordering_reverse}
 use Rattle.std.proofs.lemmas.List.Sorted.{searchable_from_sorted}
 use Rattle.table.specs.Order.{TotalOrder}
-use Rattle.table.specs.Table.{by_rank, later, place}
+use Rattle.table.specs.Table.{later, place}
 
 module _ {X K : Type 0} (o : K → K → Ordering) (key : X → K) (k : K) where
   place_err : (xs : List X) (i : ℕ) → i ≤ length xs → ((j : ℕ) (d : X) → j < i → o k (key (get_or xs j d)) ≡ Greater) → ((d : X) → i < length xs → o k (key (get_or xs i d)) ≡ Less) → place o k (map key xs) ≡ Err i
   place_err [] i le above below = let e : i ≡ 0 = omega arith in ap Err (sym e)
-  place_err (x ∷ xs) zero le above below = ap (λ r. by_rank r (Err 0) (Ok 0) (later (place o k (map key xs)))) (below x (omega arith))
+  place_err (x ∷ xs) zero le above below = ap (λ r. match_ordering r (Err 0) (Ok 0) (later (place o k (map key xs)))) (below x (omega arith))
   place_err (x ∷ xs) (suc i) le above below =
-      ap (λ r. by_rank r (Err 0) (Ok 0) (later (place o k (map key xs)))) (above zero x (omega arith))
+      ap (λ r. match_ordering r (Err 0) (Ok 0) (later (place o k (map key xs)))) (above zero x (omega arith))
       ∙ ap later (place_err xs i (omega arith) (λ j d h. above (suc j) d (omega arith)) (λ d h. below d (omega arith)))
 
   place_ok : (xs : List X) (i : ℕ) → i < length xs → ((j : ℕ) (d : X) → j < i → o k (key (get_or xs j d)) ≡ Greater) → ((d : X) → o k (key (get_or xs i d)) ≡ Equal) → place o k (map key xs) ≡ Ok i
   place_ok [] i lt above at = absurd (omega arith)
-  place_ok (x ∷ xs) zero lt above at = ap (λ r. by_rank r (Err 0) (Ok 0) (later (place o k (map key xs)))) (at x)
+  place_ok (x ∷ xs) zero lt above at = ap (λ r. match_ordering r (Err 0) (Ok 0) (later (place o k (map key xs)))) (at x)
   place_ok (x ∷ xs) (suc i) lt above at =
-      ap (λ r. by_rank r (Err 0) (Ok 0) (later (place o k (map key xs)))) (above zero x (omega arith))
+      ap (λ r. match_ordering r (Err 0) (Ok 0) (later (place o k (map key xs)))) (above zero x (omega arith))
       ∙ ap later (place_ok xs i (omega arith) (λ j d h. above (suc j) d (omega arith)) at)
 
   module _ (t : TotalOrder o) (xs : List X) (up : AllPairs (λ x y. o (key x) (key y) ≡ Less) xs) where

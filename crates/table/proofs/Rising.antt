@@ -1,14 +1,14 @@
 -- Rows whose keys rise: by their keys, by neighbours, and after a row was entered.
 use Rattle.std.proofs.Common.{◌≡◌, ℕ, suc, ◌+◌, ◌<◌, Bool, true, false, List, [], ◌∷◌, map, length, get_or, filter, Decides, Ordering, Less, Equal, Greater, sym, refl, ap, ◌∙◌, subst, true≢false, arith}
 use Rattle.std.specs.List.{All, AllPairs, IsAllAdjacentAnswer}
-use Rattle.std.specs.Ordering.{is_lt, ordering_reverse}
+use Rattle.std.specs.Ordering.{is_lt, match_ordering, ordering_reverse}
 use Rattle.std.proofs.lemmas.List.{get_or-map, length-map}
 use Rattle.std.proofs.lemmas.List.Elements.{All-cons, All-head, All-tail}
 use Rattle.std.proofs.lemmas.List.Kept.{AllPairs-cons, AllPairs-filter}
 use Rattle.std.proofs.lemmas.Map.Keys.{Less-from_sorted, sorted_from_all_adjacent}
 use Rattle.std.proofs.Math.ListN.{get_or-map as keys_at}
 use Rattle.table.specs.Order.{TotalOrder}
-use Rattle.table.specs.Table.{by_rank, Ascends, InOrder, enter_row}
+use Rattle.table.specs.Table.{Ascends, InOrder, enter_row}
 
 module _ {X K : Type 0} (o : K → K → Ordering) (key : X → K) where
   abbrev pub Below : X → X → Type 0
@@ -47,7 +47,7 @@ module _ {X K : Type 0} (o : K → K → Ordering) (key : X → K) where
 
     -- a row is entered: where one of its key stands, `pick` of the two then does
     module _ (pick : X → X → X) (kept : (r x : X) → key r ≡ key x → key (pick r x) ≡ key x) (r : X) where
-      all_by : (P : K → Type 0) (x : X) (xs ys : List X) (a : Ordering) → o (key r) (key x) ≡ a → P (key r) → All (λ y. P (key y)) (x ∷ xs) → All (λ y. P (key y)) ys → All (λ y. P (key y)) (by_rank a (r ∷ x ∷ xs) (pick r x ∷ xs) (x ∷ ys))
+      all_by : (P : K → Type 0) (x : X) (xs ys : List X) (a : Ordering) → o (key r) (key x) ≡ a → P (key r) → All (λ y. P (key y)) (x ∷ xs) → All (λ y. P (key y)) ys → All (λ y. P (key y)) (match_ordering a (r ∷ x ∷ xs) (pick r x ∷ xs) (x ∷ ys))
       all_by P x xs ys Less e new all more = All-cons (λ y. P (key y)) r (x ∷ xs) new all
       all_by P x xs ys Equal e new all more = All-cons (λ y. P (key y)) (pick r x) xs (subst P (sym (kept r x (t.same (key r) (key x) e))) (All-head (λ y. P (key y)) x xs all)) (All-tail (λ y. P (key y)) x xs all)
       all_by P x xs ys Greater e new all more = All-cons (λ y. P (key y)) x ys (All-head (λ y. P (key y)) x xs all) more
@@ -56,7 +56,7 @@ module _ {X K : Type 0} (o : K → K → Ordering) (key : X → K) where
       all_entered P [] new all = All-cons (λ y. P (key y)) r [] new all
       all_entered P (x ∷ xs) new all = all_by P x xs (enter_row pick o key r xs) (o (key r) (key x)) refl new all (all_entered P xs new (All-tail (λ y. P (key y)) x xs all))
 
-      up_by : (x : X) (xs ys : List X) (a : Ordering) → o (key r) (key x) ≡ a → AllPairs Below (x ∷ xs) → (Below x r → All (Below x) ys) → AllPairs Below ys → AllPairs Below (by_rank a (r ∷ x ∷ xs) (pick r x ∷ xs) (x ∷ ys))
+      up_by : (x : X) (xs ys : List X) (a : Ordering) → o (key r) (key x) ≡ a → AllPairs Below (x ∷ xs) → (Below x r → All (Below x) ys) → AllPairs Below ys → AllPairs Below (match_ordering a (r ∷ x ∷ xs) (pick r x ∷ xs) (x ∷ ys))
       up_by x xs ys Less e up above rest = AllPairs-cons Below r (x ∷ xs) (All-cons (Below r) x xs e (λ k d l. t.laws.trans (key r) (key x) (key (get_or xs k d)) e (up 0 (suc k) d (omega arith) (omega arith)))) up
       up_by x xs ys Equal e up above rest = AllPairs-cons Below (pick r x) xs (λ k d l. subst (λ q. o q (key (get_or xs k d)) ≡ Less) (sym (kept r x (t.same (key r) (key x) e))) (up 0 (suc k) d (omega arith) (omega arith))) (later_pairs x xs up)
       up_by x xs ys Greater e up above rest = AllPairs-cons Below x ys (above (t.laws.antisymm (key x) (key r) ∙ ap ordering_reverse e)) rest

@@ -1,14 +1,9 @@
 -- What a table in order holds, and what it holds after an entry, a replacement and a removal.
 use Rattle.std.specs.Prelude.{◌≡◌, ℕ, suc, ◌-◌, ◌<◌, ◌≤◌, Bool, List, [], ◌∷◌, ◌++◌, map, length, drop, replicate, is_err, Ok, Err, filter, Result, nat_lt}
 use Rattle.std.specs.List.{AllPairs}
-use Rattle.std.specs.declared.cmp.Ordering.TheVariants.{Less, Equal, Greater}
+use Rattle.std.specs.Ordering.{match_ordering}
+use Rattle.std.specs.declared.cmp.Ordering.TheVariants.{Less}
 use Rattle.std.specs.declared.cmp.Ordering.{Ordering}
-
--- one of three, by an answer
-abbrev pub by_rank : {V : Type 0} → Ordering → V → V → V → V
-by_rank Less a b c = a
-by_rank Equal a b c = b
-by_rank Greater a b c = c
 
 abbrev pub later : Result ℕ ℕ → Result ℕ ℕ
 later (Ok i) = Ok (suc i)
@@ -17,12 +12,12 @@ later (Err i) = Err (suc i)
 -- where k stands among the keys, or the first place before a greater one
 abbrev pub place : {K : Type 0} → (K → K → Ordering) → K → List K → Result ℕ ℕ
 place o k [] = Err 0
-place o k (x ∷ xs) = by_rank (o k x) (Err 0) (Ok 0) (later (place o k xs))
+place o k (x ∷ xs) = match_ordering (o k x) (Err 0) (Ok 0) (later (place o k xs))
 
 -- the row goes before the first of a greater key; where one of its key stands, `pick` of the two takes that one's place
 abbrev pub enter_row : {X K : Type 0} → (X → X → X) → (K → K → Ordering) → (X → K) → X → List X → List X
 enter_row pick o key r [] = r ∷ []
-enter_row pick o key r (x ∷ xs) = by_rank (o (key r) (key x)) (r ∷ x ∷ xs) (pick r x ∷ xs) (x ∷ enter_row pick o key r xs)
+enter_row pick o key r (x ∷ xs) = match_ordering (o (key r) (key x)) (r ∷ x ∷ xs) (pick r x ∷ xs) (x ∷ enter_row pick o key r xs)
 
 -- an entry after which a row of the same key that stood there stands
 abbrev pub insert_row : {X K : Type 0} → (K → K → Ordering) → (X → K) → X → List X → List X

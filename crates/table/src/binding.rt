@@ -14,6 +14,7 @@ pub struct Binding {
     pub value: Place,
 }
 
+/// Rows whose key is the name's text, in the order of its bytes.
 impl Row for Binding {
     ghost kind = { bindings };
 
@@ -21,7 +22,7 @@ impl Row for Binding {
 
     ghost zero = { zero_binding };
 
-    ghost same = { same_binding };
+    ghost same = { λ x y _. same_binding x y };
 
     fn compare(&self, text: &[u8], other: &Self, from: &[u8]) -> Ordering {
         self.name.part(text).cmp(other.name.part(from))

@@ -1,5 +1,5 @@
-//! The one ordered table: rows of any kind, kept in strictly rising order of their keys, in memory that the caller
-//! lends.
+//! The one ordered table: rows of any kind, kept in strictly rising order of their keys or appended as they come, in
+//! memory that the caller lends.
 #![tactic(auto)]
 
 mod binding;

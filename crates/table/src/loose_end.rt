@@ -7,8 +7,8 @@ use crate::row::Row;
 use std::cmp::Ordering;
 
 /// A re-export of a module, by the place of its text, that leads to no module.
-// The place is written out: as a `Place`, it would need an order by its numbers beside the one by its text, which a
-// row has.
+// The place is written out: as a `Place`, it would need an order by its numbers, which could be taken for the order
+// of places as rows, by their texts.
 #[derive(Clone, Copy, PartialEq, Eq, PartialOrd, Ord, Debug, Default)]
 pub struct LooseEnd {
     pub module: u32,
@@ -16,6 +16,7 @@ pub struct LooseEnd {
     pub length: u32,
 }
 
+/// Rows whose key is their three numbers, in their order; no text is read.
 impl Row for LooseEnd {
     ghost kind = { loose_ends };
 
@@ -23,7 +24,7 @@ impl Row for LooseEnd {
 
     ghost zero = { zero_loose_end };
 
-    ghost same = { same_loose_end };
+    ghost same = { λ x y _. same_loose_end x y };
 
     fn compare(&self, _text: &[u8], other: &Self, _from: &[u8]) -> Ordering {
         self.cmp(other)

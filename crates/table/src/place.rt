@@ -7,6 +7,7 @@ use crate::row::Row;
 use std::cmp::Ordering;
 use text::{Place, compare_loose};
 
+/// Rows whose key is the loose reading of their text.
 impl Row for Place {
     ghost kind = { places };
 
@@ -14,7 +15,7 @@ impl Row for Place {
 
     ghost zero = { zero_place };
 
-    ghost same = { same_place };
+    ghost same = { λ x y _. same_place x y };
 
     fn compare(&self, text: &[u8], other: &Self, from: &[u8]) -> Ordering {
         compare_loose(self.part(text), other.part(from))

@@ -21,6 +21,6 @@ pub trait Row: Copy + Default + Eq {
     /// the default is the row that stands where none is
     ghost zero: { (x : Self) → Self.is_default x → x ≡ kind.zero };
 
-    /// rows that `==` holds of are one row
-    ghost same: { (x y : Self) → Self.eq x y ≡ true → x ≡ y };
+    /// a row that equals the default is the default
+    ghost same: { (x y : Self) → Self.is_default y → Self.eq x y ≡ true → x ≡ y };
 }

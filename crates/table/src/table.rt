@@ -13,16 +13,17 @@ use crate::rows::{empty, open_at, sift};
 #[derive(Clone, Copy, PartialEq, Eq, Debug)]
 pub struct Full;
 
-/// Lent rows, of which the first `len` are held in order. Memory is lent, so this is no `Vec`.
-// `Ordered` is asked at each call, and is no invariant: rows may hold anything before `clear`. An invariant would want the
-// text in each table, where four tables share one, and a removal would still ask that two tables have one text.
+/// Lent rows, of which the first `len` are held: in the order of their keys, unless `push` appended them. Memory is
+/// lent, so this is no `Vec`.
+// `Ordered` is asked at each call, and is no invariant: rows may hold anything before `clear`. An invariant would
+// want the text in each table, where four tables share one, and a removal would still ask that two have one text.
 #[derive(Drop)]
 pub struct OrderedTable<'a, R> {
     pub rows: &'a mut [R],
     pub len: usize,
 }
 
-impl<'a, R> OrderedTable<'a, R> {
+impl<R> OrderedTable<'_, R> {
     /// The rows that are held; every row, where `len` is past the last.
     pub fn held(&self) -> &[R]
         ensures { result.now ≡ held self.now }
@@ -31,7 +32,7 @@ impl<'a, R> OrderedTable<'a, R> {
     }
 }
 
-impl<'a, R: Row> OrderedTable<'a, R> {
+impl<R: Row> OrderedTable<'_, R> {
     /// Where a row's key stands, or where it belongs. The row may have its key in a text of its own.
     pub fn find(&self, text: &[u8], needle: &R, from: &[u8]) -> Result<usize, usize>
         requires { Ordered R.Row.kind text.now self.now }
@@ -43,7 +44,7 @@ impl<'a, R: Row> OrderedTable<'a, R> {
             .binary_search_by(|row| row.compare(text, needle, from))
     }
 
-    /// Enters a row at a place, where there is room.
+    /// Enters a row at a place, where there is room. Answers as `insert` and `put` do of a row that is new.
     fn enter(&mut self, i: usize, row: R) -> Result<bool, Full>
         requires { (i ≤ self.old.len) × (Rest R.Row.kind.zero self.old.len self.old.rows.now) }
         ensures { Enters R.Row.kind (insert (held self.old) i row) self.old result self.new }
@@ -57,7 +58,8 @@ impl<'a, R: Row> OrderedTable<'a, R> {
         Ok(true)
     }
 
-    /// A row whose key is new goes to its place; where a row of that key stands, that one stays.
+    /// A row whose key is new goes to its place; where a row of that key stands, that one stays. Answers whether the
+    /// key is new.
     pub fn insert(&mut self, text: &[u8], row: R) -> Result<bool, Full>
         requires { Ordered R.Row.kind text.now self.old }
         ensures after { Inserts R.Row.kind text.now row self.old result self.new }
@@ -69,7 +71,8 @@ impl<'a, R: Row> OrderedTable<'a, R> {
         }
     }
 
-    /// A row whose key is new goes to its place; where a row of that key stands, this one replaces it.
+    /// A row whose key is new goes to its place; where a row of that key stands, this one replaces it. Answers whether
+    /// the key is new.
     pub fn put(&mut self, text: &[u8], row: R) -> Result<bool, Full>
         requires { Ordered R.Row.kind text.now self.old }
         ensures after { Puts R.Row.kind text.now row self.old result self.new }
@@ -85,8 +88,8 @@ impl<'a, R: Row> OrderedTable<'a, R> {
         }
     }
 
-    /// Appends a row to those that are held, whatever its key: rows that are only appended stand as they came, and in no
-    /// order of keys.
+    /// Appends a row to those that are held, whatever its key: rows that are only appended stand as they came, and in
+    /// no order of keys.
     pub fn push(&mut self, row: R) -> Result<(), Full>
         requires { Rest R.Row.kind.zero self.old.len self.old.rows.now }
         ensures { Appended R.Row.kind (row ∷ []) self.old result self.new }
