@@ -8,7 +8,7 @@ use Rattle.std.proofs.lemmas.Iterator.Consumers.{YieldsList-from_shown}
 use Rattle.tree.specs.declared.node.Children.{Children}
 use Rattle.tree.specs.declared.node.Node.{Node as TreeNode}
 use Rattle.tree.specs.declared.tree.Tree.{Tree}
-use Rattle.tree.specs.Children.{Comes, Gives, left, row_of}
+use Rattle.tree.specs.Children.{Comes, Gives, left}
 use Rattle.tree.specs.Forest.{Forest, nil, node}
 use Rattle.tree.specs.Subject.{tree_text}
 use Rattle.cjs_rules.specs.Chain.{◌>>◌, ◌or_else◌}
@@ -87,7 +87,3 @@ first_get_listed t (node j r ks rest) =
 pub any_listed : (kind : ℕ) (t : Tree) (f : Forest) → list_any (λ (n : Node × Tree). n.0.row.kind == kind) (listed t f) ≡ any_of_kind kind f
 any_listed kind t nil = refl
 any_listed kind t (node j r ks rest) = ap (λ b. r.kind == kind || b) (any_listed kind t rest)
-
--- the first child
-pub first_part : (it t : Children) (f : Forest) (a : TreeNode) → left it ≡ f → Comes it a t → f ≡ node a.row (row_of a) (here a).kids (left t)
-first_part it t f a e c = sym e ∙ c.first

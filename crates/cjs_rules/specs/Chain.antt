@@ -1,13 +1,13 @@
 -- Chains of answers that may be absent, as `?` writes them in the code.
 use Rattle.std.specs.Prelude.{Bool, true, false, Some, None, Option}
+use Rattle.std.specs.Option.{option_and_then, option_or}
 
 infixl 10 ◌>>=◌
 infixr 10 ◌>>◌
 infixl 20 ◌or_else◌
 -- what follows from an answer, if there is one
 abbrev pub ◌>>=◌ : {A B : Type 0} → Option A → (A → Option B) → Option B
-None >>= f = None
-Some a >>= f = f a
+a >>= f = option_and_then f a
 
 -- past a test that holds
 abbrev pub ◌>>◌ : {B : Type 0} → Bool → Option B → Option B
@@ -16,8 +16,7 @@ false >> b = None
 
 -- the first answer, or else the second
 abbrev pub ◌or_else◌ : {A : Type 0} → Option A → Option A → Option A
-None or_else b = b
-Some a or_else b = Some a
+a or_else b = option_or a b
 
 -- a test that may have nothing to ask, which then fails
 abbrev pub so : Option Bool → Bool

@@ -1,4 +1,4 @@
--- A row with its children: the unit of every rule. What stands so at a node of a tree, and what a search from one finds.
+-- A row with its children, the unit of every rule; what stands so at a node of a tree, and what a search from it finds.
 use Rattle.std.specs.Prelude.{◌≡◌, ℕ, zero, suc, Bool, true, false, ◌||◌, List, Some, None, Option, ◌==◌}
 use Rattle.text.specs.Place.{stretch}
 use Rattle.text.specs.declared.place.Place.{Place}
@@ -12,8 +12,8 @@ pub record Node : Type 0 where
   pub row : Row
   pub kids : Forest
 
--- what stands at a node of a tree, and the text section that its texts lie in. A model of the tree's Node in their place
--- was tried: a struct that is Copy and has lifetimes may have none, and a rule names these two apart
+-- what stands at a node of a tree, and the text section that its texts lie in. A model of the tree's Node in their
+-- place was tried: a struct that is Copy and has lifetimes may have none, and a rule names these two apart
 abbrev pub here : TreeNode → Node
 here n = record { row = row_of n; kids = children (tree_rows n.tree.now) n.row }
 

@@ -33,6 +33,8 @@ pub fn get_callee_member_expr<'t, 'a>(callee: Node<'t, 'a>) -> Option<Node<'t, '
 }
 
 /// Whether a callee is `Object.defineProperty`.
+// `is_some_and` of the two children was tried, in one chain and after the first `let`: `search` stops at its limits
+// with the return open.
 #[tactic(auto, using(crate::proofs::FirstTwo::at_most_one))]
 fn is_object_define_callee(callee: Node) -> bool
     ensures { result ≡ is_object_define_callee (section callee.entry) (here callee.entry) }
@@ -47,6 +49,7 @@ fn is_object_define_callee(callee: Node) -> bool
 }
 
 /// Whether a call is one of `Object.defineProperty` on the exports object.
+// A method that gives the first four children would serve this function and cjs_parse's `visit_object_define` alone.
 pub fn is_object_define(call: Node) -> bool
     ensures { result ≡ is_object_define (section call.entry) (here call.entry).kids }
 {
@@ -77,10 +80,7 @@ fn is_star(node: Node) -> bool
 fn is_export_member(member: Node) -> bool
     ensures { result ≡ is_export_member (section member.entry) (here member.entry) }
 {
-    let Some((object, property)) = member.first_two() else {
-        return false;
-    };
-    object.is(Kind::Ident) && is_star(property)
+    member.first_two().is_some_and(|(object, property)| object.is(Kind::Ident) && is_star(property))
 }
 
 /// Whether a callee is a helper that copies exports, by its name or as a member.

@@ -23,6 +23,8 @@ pub fn get_member_prop_text(property: Node) -> Option<Place>
 }
 
 /// Whether a member expression is `module.exports`.
+// `is_some_and` of the two children and of the name was tried, in one chain and after the first `let`: `search` stops
+// at its limits with the return open.
 #[tactic(auto, using(crate::proofs::FirstTwo::at_most_one))]
 pub fn is_module_exports_member(member: Node) -> bool
     ensures { result ≡ is_module_exports_member (section member.entry) (here member.entry) }

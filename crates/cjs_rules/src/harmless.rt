@@ -18,6 +18,7 @@ pub(crate) fn is_simple(node: Node) -> bool
 }
 
 /// Whether the expression at a node has no side effect.
+// A closure over the two children would be a part of the recursion, with a measure of its own.
 #[cycle(harmless_values)]
 pub fn harmless(node: Node) -> bool
     ensures { result ≡ harmless_expr (here node.entry).kids (here node.entry).row }

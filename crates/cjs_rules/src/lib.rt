@@ -1,4 +1,4 @@
-//! The rules of CommonJS exports, one function for each helper of the ported source, under its name.
+//! The rules of CommonJS exports. docs/FINDINGS.md has the names that the helpers of the ported source have.
 #![tactic(auto)]
 
 pub mod calls;

@@ -9,7 +9,8 @@ pub struct Part<'a> {
 }
 
 /// An identifier, or a string that has a plain reading.
-// That the cases of a name hold their parts of the text is a rule of the project, and `get_prop_name` promises the case.
+// The cases hold their parts of the text by a rule of the project (docs/DECISIONS.md), and `get_prop_name` promises
+// which it is.
 #[derive(Clone, Copy)]
 pub enum PropName<'a> {
     Ident(Part<'a>),

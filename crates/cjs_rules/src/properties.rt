@@ -85,10 +85,10 @@ pub fn is_valid_object_define_obj_lit(node: Node) -> bool
 fn is_harmless_getter(getter: Node) -> bool
     ensures { result ≡ is_harmless_getter (here getter.entry) }
 {
-    let Some((_key, body)) = getter.first_two() else {
-        return false;
-    };
-    get_block_stmt_return_expr(body).is_some_and(harmless)
+    getter
+        .first_two()
+        .and_then(|(_key, body)| get_block_stmt_return_expr(body))
+        .is_some_and(harmless)
 }
 
 /// Whether a property of an object that is assigned to the exports object is safe to read.

@@ -6,7 +6,7 @@ ghost use Rattle.cjs_rules.specs.Rules.{get_arrow_return_expr, get_block_stmt_re
 use kinds::kind::Kind;
 use tree::Node;
 
-/// The last child of a node.
+/// The last child of a node. It is public since the ES analysis calls it too.
 pub fn last_child<'t, 'a>(node: Node<'t, 'a>) -> Option<Node<'t, 'a>>
     ensures { Finds node.entry (final (here node.entry).kids) result }
 {

@@ -1,4 +1,5 @@
--- The analysis of a module: tables are emptied, two of them take in its items, and where one is refused they are emptied again.
+-- The analysis of a module: tables are emptied, two of them take in its items, and where an item is refused all are
+-- emptied again.
 use Rattle.std.proofs.Common.{◌≡◌, ℕ, true, false, cond, ◌&&◌, eqb, List, [], ◌++◌, length, is_err, Ok, Err, Result, sym, refl, ap, ◌∙◌, subst, true≢false}
 use Rattle.std.specs.Prelude.{nat_le}
 use Rattle.std.proofs.lemmas.Bool.{cond-false}

@@ -1,4 +1,4 @@
--- Appending in steps: after a step that was accepted the rest follows, and after one that was refused the rest is cut off.
+-- Appending in steps: after one that was accepted the rest follows, and after one that was refused the rest is cut off.
 use Rattle.std.proofs.Common.{◌≡◌, ◌<◌, ◌≤◌, true, false, leb, List, [], ◌++◌, length, take, is_ok, is_err, Ok, Err, Result, sym, refl, ap, ◌∙◌, subst, append_assoc, append-nil, arith}
 use borrow.Author.Tests.{true-leb, false-leb, lt-false, le-true}
 use Rattle.std.proofs.lemmas.List.{length-append, length-take, length-take-le, take_all, take-append-le}

@@ -1,5 +1,5 @@
 -- A loop that appends: what it comes to as a whole is what it comes to from here on.
-use Rattle.std.proofs.Common.{◌≡◌, ℕ, ◌-◌, true, List, [], ◌++◌, length, is_err, Ok, Err, Result, ap, ◌∙◌, subst}
+use Rattle.std.proofs.Common.{◌≡◌, true, List, [], ◌++◌, is_err, Ok, Err, Result, ap, ◌∙◌, subst}
 use Rattle.table.specs.declared.table.Full.{Full}
 use Rattle.text.specs.declared.place.Place.{Place}
 use Rattle.tree.specs.Children.{Comes, left, row_of}
@@ -10,10 +10,6 @@ use Rattle.tree.specs.Subject.{tree_rows}
 use Rattle.exports.specs.declared.append.PlaceList.{PlaceList}
 use Rattle.exports.specs.Append.{Lists}
 use Rattle.exports.proofs.Appending.{cut_off, more_listed, none_listed}
-
--- a bound on the rows under a node
-abbrev pub ahead : Node → ℕ
-ahead n = length (tree_rows n.tree.now) - n.row
 
 -- from the list t on, with `rest` to append, as from the list s on with `all`
 pub record Onward (all rest : List Place) (s t : PlaceList) : Type 0 where

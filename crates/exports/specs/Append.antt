@@ -1,4 +1,5 @@
--- Places appended to a list, as far as its table has room; an item listed in two lists, and all items of a module in two tables.
+-- Places appended to a list, as far as its table has room; an item listed in two lists, and all items of a module in
+-- two tables.
 use Rattle.std.specs.Prelude.{◌≡◌, ℕ, ◌&&◌, List, [], ◌∷◌, ◌++◌, length, is_ok, Some, None, Ok, Err, Option, Result, nat_le}
 use Rattle.exports.specs.Listing.{listed, listing}
 use Rattle.exports.specs.declared.append.PlaceList.{PlaceList}

@@ -2,17 +2,18 @@
 use Rattle.std.specs.Prelude.{◌≡◌, Bool, false, cond, List, [], ◌∷◌, Some, None, Option}
 use Rattle.kinds.specs.Kinds.{default_spec, export_decl, export_default, export_named, ts_enum, ts_module, type_decl, using_decl}
 use Rattle.kinds.specs.Shape.{among}
+use Rattle.text.specs.Place.{textless}
 use Rattle.text.specs.declared.place.Place.{Place}
 use Rattle.cjs_rules.specs.Nodes.{Node, any_of_kind, child, is}
 use Rattle.exports.specs.BoundNames.{of_declarators}
-use Rattle.exports.specs.ExportedNames.{each, exported_names, identified, if_any, of_declaration, of_default, of_specifier, textless}
+use Rattle.exports.specs.ExportedNames.{each, exported_names, identified, if_any, of_declaration, of_default, of_specifier}
 
 -- a declaration outside the standard
 abbrev pub is_beyond : Node → Bool
 is_beyond d = among (using_decl ∷ ts_enum ∷ ts_module ∷ type_decl ∷ []) d.row.kind
 
--- `export using` exports its bound names, `export enum` and `export module` their identifiers, a module named by a string nothing;
--- a type declaration exports nothing
+-- `export using` exports its bound names, `export enum` and `export module` their identifiers, a module named by a
+-- string nothing; a type declaration exports nothing
 abbrev pub of_beyond : Node → List Place
 of_beyond d =
     cond (is using_decl d) (of_declarators d.kids)

@@ -1,4 +1,5 @@
--- BoundNames of ECMA-262 over the rows of a tree, clause by clause: the places of the names that a pattern binds, in source order.
+-- BoundNames of ECMA-262 over the rows of a tree, clause by clause: the places of the names that a pattern binds, in
+-- source order.
 use Rattle.std.specs.Prelude.{ℕ, Bool, cond, List, [], ◌∷◌, ◌++◌, Some, None, Option}
 use Rattle.kinds.specs.Kinds.{array_pat, assign_pat, assign_pat_prop, ident, key_value_pat, object_pat, rest_pat}
 use Rattle.kinds.specs.Shape.{among}
@@ -26,7 +27,8 @@ of_pattern n elements properties first =
 abbrev pub starts_with_pattern : ℕ → Bool
 starts_with_pattern kind = among (assign_pat_prop ∷ rest_pat ∷ []) kind
 
--- a property of an object pattern, by what the first and the second of its children bind: `key: pattern` binds those of its pattern
+-- a property of an object pattern, by what the first and the second of its children bind: `key: pattern` binds those
+-- of its pattern
 abbrev pub of_property : Node → List Place → List Place → List Place
 of_property n first second = cond (is key_value_pat n) second (cond (starts_with_pattern n.row.kind) first [])
 

@@ -2,6 +2,7 @@
 use Rattle.std.specs.Prelude.{cond, List, [], ◌∷◌, ◌++◌, Some, None, Option}
 use Rattle.kinds.specs.Kinds.{class_decl, export_all, export_decl, export_default, export_named, fn_decl, ident, named_spec, namespace_spec, var_decl}
 use Rattle.kinds.specs.Shape.{among}
+use Rattle.text.specs.Place.{textless}
 use Rattle.text.specs.declared.place.Place.{Place}
 use Rattle.tree.specs.Forest.{Forest, nil, node}
 use Rattle.cjs_rules.specs.Nodes.{Node, child, final, is, place}
@@ -16,10 +17,6 @@ each list (node j r f rest) = list (record { row = r; kids = f }) ++ each list r
 abbrev pub if_any : (Node → List Place) → Option Node → List Place
 if_any list None = []
 if_any list (Some n) = list n
-
--- `default` where no text spells it
-abbrev pub textless : Place
-textless = record { offset = 0; length = 4294967295 }
 
 -- the text of a row as a name
 abbrev pub named : Node → List Place

@@ -1,4 +1,4 @@
--- What a program exports and re-exports, in source order and with repeats, and the outcome where tables have so much room.
+-- What a program exports and re-exports, in source order and with repeats, and the outcome in tables of a given room.
 use Rattle.std.specs.Prelude.{◌≡◌, ℕ, ◌<◌, ◌≤◌, Bool, cond, ◌&&◌, List, [], ◌++◌, length, Ok, Err, Result, ◌==◌, nat_le}
 use Rattle.findings.specs.Tables.{Found, Room}
 use Rattle.text.specs.declared.place.Place.{Place}
@@ -25,7 +25,8 @@ listing_of f = listing (each item_names f) (each star_of f)
 abbrev pub has_enough_room : Room → Found → Bool
 has_enough_room room f = nat_le (length f.exports) room.exports && nat_le (length f.reexports) room.reexports
 
--- item by item, with what the items before export and re-export: the row of the first item for which there is no room, or the lists
+-- item by item, with what the items before export and re-export: the row of the first item for which there is no room,
+-- or the lists
 abbrev pub listed : Room → List Place → List Place → Forest → Result Found ℕ
 listed room names stars nil = Ok (listing names stars)
 listed room names stars (node j r f rest) =

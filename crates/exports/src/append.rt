@@ -6,7 +6,8 @@ use table::{Full, OrderedTable};
 use text::Place;
 
 /// A table that places are appended to. The rows past its count are zero.
-// The order of its keys is not used: both analyses fill the same `FindingsTables`, whose lists are ordered tables.
+// The order of its keys is not used. A list type would have to be made of a table of `FindingsTables`, a public type
+// that both analyses fill, and be given back as that table.
 #[derive(Drop)]
 pub(crate) struct PlaceList<'a, 't> {
     pub(crate) table: &'a mut OrderedTable<'t, Place>,

@@ -43,6 +43,7 @@ fn find_pat_ids(pattern: Node, names: &mut PlaceList) -> Result<(), Full>
             }
             Ok(())
         }
+        // `map_or` was tried: its closure is then a part of the recursion, and needs a measure of its own.
         Kind::RestPat | Kind::AssignPat => match pattern.children().next() {
             Some(wrapped) => find_pat_ids(wrapped, names),
             None => Ok(()),

@@ -81,6 +81,7 @@ fn export_names(item: Node, names: &mut PlaceList) -> Result<(), Full>
     ensures { Lists (item_names (here item.entry)) names.old result names.new }
 {
     match item.kind() {
+        // `map_or` with a closure that borrows `names` was tried: `search` leaves the return open.
         Kind::ExportDecl => match item.children().next() {
             Some(declaration) => export_declaration(declaration, names),
             None => Ok(()),
@@ -92,6 +93,7 @@ fn export_names(item: Node, names: &mut PlaceList) -> Result<(), Full>
 }
 
 /// Lists what an item exports and re-exports: `export *` re-exports a module, any other item exports names.
+// A struct of the two lists would serve this function alone, and would name the lifetimes of both tables.
 fn list_item(item: Node, names: &mut PlaceList, stars: &mut PlaceList) -> Result<(), Full>
     ensures { ItemListed (item_names (here item.entry)) (star_of (here item.entry)) names.old stars.old result names.new stars.new }
 {
@@ -119,6 +121,7 @@ pub(crate) fn list_items(
     let mut stars = PlaceList { table: reexports };
     for item in program.root().children() {
         let row = item.row();
+        // The refusal as in the other analysis: a shared function would be longer.
         list_item(item, &mut names, &mut stars).map_err(|_| FindingsFault::Full { module, row })?;
     }
     Ok(())

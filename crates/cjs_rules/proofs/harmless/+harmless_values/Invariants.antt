@@ -1,9 +1,8 @@
-use Rattle.std.proofs.Common.{◌-◌, length}
-use Rattle.tree.specs.Subject.{tree_rows}
+use Rattle.cjs_rules.proofs.Ahead.{ahead}
 use Rattle.cjs_rules.proofs.harmless.+harmless_values.Given as goal
 
 abbrev pub decreases-harmless : goal.decreases-harmless
-decreases-harmless l = length (tree_rows l.node.tree.now) - l.node.row
+decreases-harmless l = ahead l.node
 
 abbrev pub decreases-harmless_prop : goal.decreases-harmless_prop
-decreases-harmless_prop l = length (tree_rows l.property.tree.now) - l.property.row
+decreases-harmless_prop l = ahead l.property

@@ -1,8 +1,9 @@
 use Rattle.std.proofs.Common.{◌≡◌}
 use Rattle.cjs_rules.specs.Nodes.{here}
+use Rattle.cjs_rules.proofs.Ahead.{ahead}
 use Rattle.tree.specs.Children.{left}
 use Rattle.exports.specs.BoundNames.{bound_names, of_elements, of_properties}
-use Rattle.exports.proofs.Onward.{Onward, ahead}
+use Rattle.exports.proofs.Onward.{Onward}
 use Rattle.exports.proofs.find_pat_ids.+find_pat_ids.Given as goal
 
 abbrev pub decreases-find_pat_ids : goal.decreases-find_pat_ids

@@ -1,4 +1,5 @@
--- `exports-in-Break-1-own` and `reexports-in-Break-1-own` are the tables that the two lists give back where an item is refused.
+-- `exports-in-Break-1-own` and `reexports-in-Break-1-own` are the tables that the two lists give back where an item is
+-- refused.
 use Rattle.std.proofs.Common.{◌≡◌, Err, true, false, is_ok, sym, ◌∙◌, rules, tests}
 use Rattle.cjs_rules.specs.Nodes.{here}
 use Rattle.findings.specs.declared.refusal.FindingsFault.TheVariants.{Full}
