@@ -51,8 +51,8 @@ is_long (TooLong n) = true
 sized-number : (n room : ℕ) → number_of (sized n room) ≡ n
 sized-number n room = elim (nat_le n room) as (λ v. number_of (cond v (Fits n) (TooLong n)) ≡ n) [ true ↦ refl | false ↦ refl ]
 
-pub number_so : (n room : ℕ) (next : Length) → next ≡ sized n room → number_of next ≡ n
-number_so n room next e = ap number_of e ∙ sized-number n room
+number_of_sized : (n room : ℕ) (next : Length) → next ≡ sized n room → number_of next ≡ n
+number_of_sized n room next e = ap number_of e ∙ sized-number n room
 
 -- a reader that ended before the next block's length, or inside it
 pub NextLine-ended : (room : ℕ) (a b : Option (List ℕ)) (e : ReadError) (r : Result (Option (Line Found)) ReadError) → NextLength room a b (Err e)
@@ -60,14 +60,6 @@ pub NextLine-ended : (room : ℕ) (a b : Option (List ℕ)) (e : ReadError) (r :
 NextLine-ended room a b e (Ok u) took is = absurd is
 NextLine-ended room a b (CutShort k) (Err f) (head, some, short, end) is = subst (λ x. NextLine a b (Err x)) (sym is) (head, in_length head some short, end)
 NextLine-ended room a b (Io k) (Err f) u is = subst (λ x. NextLine a b (Err x)) (sym is) tt
-
--- a reader that ended inside the next block
-pub NextLine-cut : (a b c : Option (List ℕ)) (head : List ℕ) (n : ℕ) (e : ReadError) (r : Result (Option (Line Found)) ReadError) → Consumes a b head → length head ≡ 4
-    → n ≡ le32 head 0 → Takes n b c (Err e) → IsErrAnd r (λ f. f ≡ e) → NextLine a c r
-NextLine-cut a b c head n e (Ok u) first four long took is = absurd is
-NextLine-cut a b c head n (CutShort k) (Err f) first four long (part, short, (gave, end)) is =
-    subst (λ x. NextLine a c (Err x)) (sym is) (head ++ part, in_block head part four (subst (λ m. length part < m) long short), (Consumes-trans a b c head part first gave, end))
-NextLine-cut a b c head n (Io k) (Err f) first four long u is = subst (λ x. NextLine a c (Err x)) (sym is) tt
 
 -- the lines so far, and those of what a reader ended with
 pub WritesLines-ended : (a b c o p q : Option (List ℕ)) (taken written more chunk : List ℕ) (P : List ℕ → Type 0) → Consumes a b taken → Appends o p written
@@ -95,20 +87,40 @@ lines_onward taken written head blk line so four long answers rest lines h =
     subst (λ l. LinesOf ((taken ++ (head ++ blk)) ++ rest) l) (sym (append_assoc written chunk lines))
     (subst (λ l. LinesOf l (written ++ (chunk ++ lines))) (sym (append_assoc taken (head ++ blk) rest)) all)
 
--- the length that follows in a stream
-abbrev pub Follows : ℕ → Option (List ℕ) → Option (List ℕ) → Length → Type 0
-Follows room a b next = (head : List ℕ) × (length head ≡ 4) × (next ≡ sized (le32 head 0) room) × Consumes a b head
-
-pub next_some : (room : ℕ) (a b : Option (List ℕ)) (o : Option Length) (next : Length) → o ≡ Some next → NextLength room a b (Ok o) → Follows room a b next
-next_some room a b o next e took = subst (λ x. NextLength room a b (Ok x)) e took
-
 -- a block that is too long has no room
 above : (n room k : ℕ) (v : Bool) → nat_le n room ≡ v → TooLong k ≡ cond v (Fits n) (TooLong n) → room < n
 above n room k true le e = absurd (true≢false (ap is_long e))
 above n room k false le e = leb-false n room le
 
-pub too_long_above : (n room k : ℕ) → TooLong k ≡ sized n room → room < k
-too_long_above n room k e = subst (λ m. room < m) (sym (number_so n room (TooLong k) e)) (above n room k (nat_le n room) refl e)
+too_long_above : (n room k : ℕ) → TooLong k ≡ sized n room → room < k
+too_long_above n room k e = subst (λ m. room < m) (sym (number_of_sized n room (TooLong k) e)) (above n room k (nat_le n room) refl e)
+
+-- the length that a reader gave is this one, of its two kinds
+module _ (room : ℕ) (a b : Option (List ℕ)) {o : Option Length} {next given : Length} (some : o ≡ Some next) (is : next ≡ given) (took : NextLength room a b (Ok o)) where
+  abbrev Follows : Type 0
+  Follows = (head : List ℕ) × (length head ≡ 4) × (given ≡ sized (le32 head 0) room) × Consumes a b head
+
+  follows : Follows
+  follows = let (head, four, of, gave) = subst (λ x. NextLength room a b (Ok x)) some took in (head, four, sym is ∙ of, gave)
+
+  -- it ended inside the block
+  pub NextLine-cut : (c : Option (List ℕ)) (n : ℕ) (e : ReadError) (r : Result (Option (Line Found)) ReadError) → n ≡ number_of given → Takes n b c (Err e) → IsErrAnd r (λ f. f ≡ e) → NextLine a c r
+  NextLine-cut c n e (Ok u) long taken error = absurd error
+  NextLine-cut c n (CutShort k) (Err f) long (part, short, (gave, end)) error =
+      let (head, four, of, first) = follows in
+      let number = long ∙ number_of_sized _ _ _ of in
+      subst (λ x. NextLine a c (Err x)) (sym error) (head ++ part, in_block head part four (subst (λ m. length part < m) number short), (Consumes-trans a b c head part first gave, end))
+  NextLine-cut c n (Io k) (Err f) long u error = subst (λ x. NextLine a c (Err x)) (sym error) tt
+
+  -- the block follows, which has this answer
+  pub NextLine-whole : (c : Option (List ℕ)) (blk : List ℕ) (answer : Result Found Fault) → length blk ≡ number_of given → AnswerOf 0 blk answer → Consumes b c blk → NextLine a c (Ok (Some (record { 0 = answer })))
+  NextLine-whole c blk answer long answers gave =
+      let (head, four, of, first) = follows in
+      (head, blk, four, long ∙ number_of_sized _ _ _ of, answers, Consumes-trans a b c head blk first gave)
+
+-- a block that is too long is above the room
+pub next_above : (room : ℕ) (a b : Option (List ℕ)) {o : Option Length} {next : Length} (k : ℕ) → o ≡ Some next → next ≡ TooLong k → NextLength room a b (Ok o) → room < k
+next_above room a b k some is took = let (head, four, of, gave) = follows room a b some is took in too_long_above _ _ k of
 
 -- the line that follows in a stream
 abbrev pub FollowsLine : Option (List ℕ) → Option (List ℕ) → Line Found → Type 0

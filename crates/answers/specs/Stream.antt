@@ -1,5 +1,5 @@
 -- A stream of blocks, each after its length: what is read of it, and the lines that it gets.
-use Rattle.std.specs.Prelude.{◌≡◌, ℕ, ◌≤◌, ◌<◌, cond, List, [], ◌++◌, length, ◌==◌, nat_le, nat_lt, Option, Some, None, Result, Ok, Err, codes}
+use Rattle.std.specs.Prelude.{◌≡◌, ℕ, ◌-◌, ◌^◌, ◌≤◌, ◌<◌, cond, List, [], ◌++◌, length, ◌==◌, nat_le, nat_lt, Option, Some, None, Result, Ok, Err, IfSome, codes}
 use Rattle.std.specs.Io.KnownBytes.{Appends, Consumes, IsAtEnd}
 use Rattle.fault.specs.declared.Fault.{Fault}
 use Rattle.fault.specs.declared.Line.{Line}
@@ -49,6 +49,10 @@ pub data LinesOf : List ℕ → List ℕ → Type 0 where
 -- a writer was given the lines of a stream
 abbrev pub WritesLines : Option (List ℕ) → Option (List ℕ) → List ℕ → Type 0
 WritesLines old new xs = (lines : List ℕ) × LinesOf xs lines × Appends old new lines
+
+-- a writer was given the lines of all that a reader had left, where that is known and of fewer than 2 ^ 64 - 1 bytes
+abbrev pub AnswersAll : Option (List ℕ) → Option (List ℕ) → Option (List ℕ) → Type 0
+AnswersAll input old new = IfSome input (λ xs. length xs < 2 ^ 64 - 1 → WritesLines old new xs)
 
 -- a reader ended after these bytes
 abbrev pub EndsAfter : Option (List ℕ) → Option (List ℕ) → List ℕ → Type 0

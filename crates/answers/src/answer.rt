@@ -5,7 +5,7 @@ ghost use Rattle.answers.specs.Answers.{AnswerOf, found_line};
 use fault::Fault;
 use findings::parsed_source::ProgramRef;
 use std::fmt;
-use tree::{Tree, TreeFault};
+use tree::{LONGEST_BLOCK, Tree, TreeFault};
 
 /// What was found in the tree of a lawful block.
 #[derive(Clone, Copy, PartialEq, Eq, Debug)]
@@ -23,11 +23,11 @@ pub fn answer_for(module: u32, block: &[u8]) -> Result<Found, Fault>
     })
 }
 
-/// The refusal of a block of more than 4,194,304 bytes, whatever they are.
+/// The refusal of a block of more than `LONGEST_BLOCK` bytes, whatever they are.
 pub fn answer_too_long(module: u32) -> Fault
-    ensures { (block : List ℕ) → 4194304 < length block → AnswerOf «module» block (Err result) }
+    ensures { (block : List ℕ) → LONGEST_BLOCK < length block → AnswerOf «module» block (Err result) }
 {
-    // One conversion here and in `block_lines`, of which neither is below the other; the promise is that of `too_long`.
+    // The same call as in `block_lines`: callers of each crate are promised it under this name.
     Fault::from(TreeFault::too_long(module))
 }
 

@@ -1,7 +1,7 @@
 //! A stream of blocks, each after its length as a 32-bit little-endian number: one line for each block.
 ghost use Rattle.std.specs.Prelude.{◌≡◌, ◌≤◌, ◌<◌, length, take, IfOk, IfSome, OnOk, Some, codes};
 ghost use Rattle.std.specs.Io.KnownBytes.{Consumes, IsAtEnd};
-ghost use Rattle.answers.specs.Stream.{NextLength, NextLine, Takes, Within, WritesLines, announced_by, kept_of, sized};
+ghost use Rattle.answers.specs.Stream.{AnswersAll, NextLength, NextLine, Takes, Within, announced_by, kept_of, sized};
 ghost use Rattle.answers.specs.declared.stream.ReadError.TheVariants.{CutShort, Io};
 
 use crate::answer::{Found, answer_for, answer_too_long};
@@ -10,12 +10,11 @@ use std::alloc::Global;
 use std::error::Error;
 use std::io::{Read, Write};
 use std::{fmt, io};
-use text::read_le32;
 use tree::LONGEST_BLOCK;
 
 /// The length of a block: of one that fits into the room there is, or of one that is too long for it.
-// No `Result`, since neither is a failure; nor an `Option` of a part of the buffer, since a block that is too long is
-// read past by its length.
+// No bare number, as `announced` promises which it is; no `Result`, in which a length would be called a failure; no
+// `Option` of a part of the buffer, as a block that is too long is read past by its length.
 #[derive(Clone, Copy, PartialEq, Eq, Debug)]
 pub enum Length {
     Fits(usize),
@@ -27,6 +26,8 @@ pub enum Length {
 pub struct CutShort;
 
 /// Why the next block of a stream is not to be had.
+// Both `From` by hand: one that `thiserror` derives has no `from_gives`, and the clauses below name the error that a
+// `?` makes.
 #[derive(Debug, Drop)]
 enum ReadError {
     CutShort(CutShort),
@@ -60,8 +61,10 @@ impl fmt::Display for CutShort {
     }
 }
 
+/// No error lies under it.
 impl Error for CutShort {}
 
+/// How it is told which of the two it is.
 impl Length {
     /// Which it is, where there is room for so many bytes.
     fn new(length: usize, room: usize) -> Self
@@ -81,10 +84,13 @@ pub fn announced(head: &[u8], room: usize) -> Result<Option<Length>, CutShort>
     ensures exact { result ≡ announced_by head.now room }
     ensures within { IfOk result (λ next. IfSome next (Within room)) }
 {
-    match head.len() {
-        0 => Ok(None),
-        1..=3 => Err(CutShort),
-        _ => Ok(Some(Length::new(read_le32(head, 0) as usize, room))),
+    match head {
+        [] => Ok(None),
+        &[a, b, c, d, ..] => {
+            let length = u32::from_le_bytes([a, b, c, d]) as usize;
+            Ok(Some(Length::new(length, room)))
+        }
+        _ => Err(CutShort),
     }
 }
 
@@ -124,8 +130,8 @@ fn fill_whole<R: Read>(input: &mut R, buffer: &mut [u8]) -> Result<(), ReadError
 }
 
 /// Reads past so many bytes of the input: those of a block that is too long are not kept.
-// No struct of input and buffer: tried, and each use lends both fields again, as the check covers no part of an array
-// behind a field.
+// No struct of input and buffer: begun, and longer than this, as each use lends both fields again. The check covers no
+// `[..n]` of an array behind a field.
 fn pass_over<R: Read>(
     input: &mut R,
     buffer: &mut [u8; LONGEST_BLOCK],
@@ -180,8 +186,7 @@ pub fn answer_stream_in<R: Read, W: Write>(
     input: &mut R,
     output: &mut W,
 ) -> io::Result<()>
-    ensures { OnOk result (IfSome (R.remaining input.old)
-        (λ xs. length xs < u64.MAX → WritesLines (W.contents output.old) (W.contents output.new) xs)) }
+    ensures { OnOk result (AnswersAll (R.remaining input.old) (W.contents output.old) (W.contents output.new)) }
 {
     // A loop has to end, and nothing says that an input does. Each turn takes four bytes at least.
     for _ in 0..u64::MAX {
@@ -201,10 +206,10 @@ pub fn answer_stream<R: Read, W: Write>(
     input: &mut R,
     output: &mut W,
 ) -> io::Result<()>
-    ensures { OnOk result (IfSome (R.remaining input.old)
-        (λ xs. length xs < u64.MAX → WritesLines (W.contents output.old) (W.contents output.new) xs)) }
+    ensures { OnOk result (AnswersAll (R.remaining input.old) (W.contents output.old) (W.contents output.new)) }
 {
     let mut buffer = vec![in heap; 0u8; LONGEST_BLOCK]?;
+    // Proved: the buffer has `LONGEST_BLOCK` bytes.
     let room = buffer.as_mut_slice().try_into().unwrap();
     answer_stream_in(room, input, output)
 }

@@ -1,8 +1,7 @@
 -- The text of what an analysis leaves is that of what it comes to.
-use Rattle.std.proofs.Common.{◌≡◌, ℕ, ◌-◌, Bool, List, ◌++◌, length, take, replicate, Ok, Err, codes, Result, ap, ◌∙◌, subst, arith}
+use Rattle.std.proofs.Common.{◌≡◌, ℕ, Bool, List, ◌++◌, Ok, Err, codes, Result, ap, ◌∙◌, subst}
 use Rattle.std.specs.Result.{result_and}
-use Rattle.std.proofs.lemmas.List.{take_all, take-append-le}
-use Rattle.table.specs.Table.{Left}
+use Rattle.table.proofs.Entered.{take_left}
 use Rattle.fault.specs.Line.{digit, fault_line}
 use Rattle.fault.specs.declared.Fault.{Fault}
 use Rattle.findings.specs.Tables.{Analysed, Found, Hold, Room, answered, describe, kept, room_of}
@@ -14,36 +13,30 @@ use Rattle.lines.specs.declared.places.Lists.{Lists}
 use Rattle.block_lines.specs.Lines.{ListsOf, NamesOf, PartOf, both_text, names_of, names_text, outcome_text, part_text}
 use Rattle.block_lines.specs.declared.line.Names.{Names}
 
-pub left_take : {X : Type 0} (z : X) (cap : ℕ) (ys : List X) (n : ℕ) (rows : List X) → Left z cap ys n rows → take n rows ≡ ys
-left_take z cap ys n rows l =
-    (λ i. take (l.len_is i) (l.rows_is i))
-    ∙ take-append-le (length ys) ys (replicate (cap - length ys) z) (omega arith)
-    ∙ take_all (length ys) ys (omega arith)
-
-lists_text_lem : (room : Room) (f : Found) (t : FindingsTables) (l : Lists) → Hold room f t → ListsOf t l → lists_text l.bindings.now l.exports.now l.reexports.now l.unsafes.now ≡ lists_text f.bindings f.exports f.reexports f.unsafes
-lists_text_lem room f t l h o =
+lists_text_of_held : (room : Room) (f : Found) (t : FindingsTables) (l : Lists) → Hold room f t → ListsOf t l → lists_text l.bindings.now l.exports.now l.reexports.now l.unsafes.now ≡ lists_text f.bindings f.exports f.reexports f.unsafes
+lists_text_of_held room f t l h o =
     λ i. lists_text
-    ((o.bindings ∙ left_take _ _ _ _ _ h.bindings) i)
-    ((o.exports ∙ left_take _ _ _ _ _ h.exports) i)
-    ((o.reexports ∙ left_take _ _ _ _ _ h.reexports) i)
-    ((o.unsafes ∙ left_take _ _ _ _ _ h.unsafes) i)
+    ((o.bindings ∙ take_left h.bindings) i)
+    ((o.exports ∙ take_left h.exports) i)
+    ((o.reexports ∙ take_left h.reexports) i)
+    ((o.unsafes ∙ take_left h.unsafes) i)
 
-pub part_text_lem : (m : ℕ) (s : FindingsTables) (o : Result Found ℕ) (a : Result (Unit {0}) FindingsFault) (t : FindingsTables) (p : Result Lists Fault) → Analysed m s o a t → PartOf a t p → part_text p ≡ outcome_text m o
-part_text_lem m s o a t p d q = at o p d.tables.holds (subst (λ r. PartOf r t p) d.answer q)
+pub part_text_is_outcome : (m : ℕ) (s : FindingsTables) (o : Result Found ℕ) (a : Result (Unit {0}) FindingsFault) (t : FindingsTables) (p : Result Lists Fault) → Analysed m s o a t → PartOf a t p → part_text p ≡ outcome_text m o
+part_text_is_outcome m s o a t p d q = at o p d.tables.holds (subst (λ r. PartOf r t p) d.answer q)
   where
     at : (o : Result Found ℕ) (p : Result Lists Fault) → Hold (room_of s) (kept o) t → PartOf (answered m o) t p → part_text p ≡ outcome_text m o
-    at (Ok f) (Ok l) h q = lists_text_lem (room_of s) f t l h q
+    at (Ok f) (Ok l) h q = lists_text_of_held (room_of s) f t l h q
     at (Ok f) (Err g) h q = absurd q
     at (Err j) (Ok l) h q = absurd q
     at (Err j) (Err g) h q = ap fault_line q
 
-names_text_lem : (T : List ℕ) (room : Room) (f : Found) (t : FindingsTables) (n : Names) → Hold room f t → NamesOf T t n → names_of n ≡ names_text T f.exports f.reexports
-names_text_lem T room f t n h o = λ i. names_text (o.text i) ((o.exports ∙ left_take _ _ _ _ _ h.exports) i) ((o.reexports ∙ left_take _ _ _ _ _ h.reexports) i)
+names_text_of_held : (T : List ℕ) (room : Room) (f : Found) (t : FindingsTables) (n : Names) → Hold room f t → NamesOf T t n → names_of n ≡ names_text T f.exports f.reexports
+names_text_of_held T room f t n h o = λ i. names_text (o.text i) ((o.exports ∙ take_left h.exports) i) ((o.reexports ∙ take_left h.reexports) i)
 
 module _ (m : ℕ) (T : List ℕ) (script : Bool) where
   -- both analyses are accepted
   pub accepted_text : (k l : Room) (u v : FindingsTables) (o p : Result Found ℕ) (x y : Names) → Hold k (kept o) u → Hold l (kept p) v → Ok tt ≡ result_and (answered m o) (answered m p) → NamesOf T u x → NamesOf T v y → digit script ++ (codes " " ++ (names_of x ++ (codes " " ++ names_of y))) ≡ both_text m T script o p
-  accepted_text k l u v (Ok f) (Ok g) x y c d e q r = λ i. digit script ++ (codes " " ++ (names_text_lem T k f u x c q i ++ (codes " " ++ names_text_lem T l g v y d r i)))
+  accepted_text k l u v (Ok f) (Ok g) x y c d e q r = λ i. digit script ++ (codes " " ++ (names_text_of_held T k f u x c q i ++ (codes " " ++ names_text_of_held T l g v y d r i)))
   accepted_text k l u v (Err j) p x y c d e q r = cc
   accepted_text k l u v (Ok f) (Err j) x y c d e q r = cc
 

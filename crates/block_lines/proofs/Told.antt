@@ -17,7 +17,7 @@ use Rattle.block_lines.specs.Lines.{AnswersText, FindingsText, NamesOf, PartOf, 
 use Rattle.block_lines.specs.declared.analyses.Analyses.{Analyses}
 use Rattle.block_lines.specs.declared.line.Report.{Report}
 use Rattle.block_lines.specs.declared.line.Names.{Names}
-use Rattle.block_lines.proofs.Parts.{accepted_text, part_text_lem, refused_text}
+use Rattle.block_lines.proofs.Parts.{accepted_text, part_text_is_outcome, refused_text}
 use Rattle.block_lines.proofs.Shown.{fault_shown}
 
 module _ (m : ℕ) (block : List ℕ) (s t : FindingsTables) (s' t' : FindingsTables) where
@@ -27,8 +27,8 @@ module _ (m : ℕ) (block : List ℕ) (s t : FindingsTables) (s' t' : FindingsTa
 
   pub findings_told : (a : Analyses) (x y : Result Lists Fault) → Analysis m block s t a s' t' → PartOf a.cjs s' x → PartOf a.es t' y → FindingsText m (room_of s) (room_of t) block (findings_found (record { is_script = a.is_script; cjs = x; es = y }))
   findings_told a x y analysis p q =
-      let cjs = part_text_lem m s (cjs_of (room_of s) block) a.cjs s' x analysis.cjs_is p in
-      let es = part_text_lem m t (es_of (room_of t) block) a.es t' y analysis.es_is q in
+      let cjs = part_text_is_outcome m s (cjs_of (room_of s) block) a.cjs s' x analysis.cjs_is p in
+      let es = part_text_is_outcome m t (es_of (room_of t) block) a.es t' y analysis.es_is q in
       subst (FindingsText m (room_of s) (room_of t) block)
       (sym (λ i. digit (analysis.script_is i) ++ (codes " | " ++ (cjs i ++ (codes " | " ++ es i)))))
       (found analysis.lawful)

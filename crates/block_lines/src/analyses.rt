@@ -10,6 +10,7 @@ use tree::{Tree, TreeFault};
 
 /// What is found in a lawful block: its text section, the script test, and whether each analysis is refused. What the
 /// analyses find stands in their tables.
+// No text beside a `Report`: callers read the four fields by these names.
 #[derive(Clone, Copy)]
 pub struct Analyses<'a> {
     pub text: &'a [u8],
@@ -19,7 +20,8 @@ pub struct Analyses<'a> {
 }
 
 /// Checks a block of a module, and runs the script test and both analyses, each with tables of its own.
-// The tables are two parameters: a struct of two `&mut` would be made at each call and taken apart at once.
+// Module, block and both tables stay parameters, here and in `answer.rt`: a struct of them is no plainer, as each of
+// the three functions uses the tables apart.
 pub fn analyse<'a>(
     module: u32,
     block: &'a [u8],

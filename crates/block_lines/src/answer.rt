@@ -9,13 +9,13 @@ use crate::line::{AnswersLine, FindingsLine, Names, Part, Report};
 use fault::Fault;
 use findings::{FindingsFault, FindingsTables};
 use lines::Lists;
-use tree::TreeFault;
+use tree::{LONGEST_BLOCK, TreeFault};
 
-/// The refusal of a block of more than 4,194,304 bytes, whatever they are.
+/// The refusal of a block of more than `LONGEST_BLOCK` bytes, whatever they are.
 pub fn refusal_of_too_long(module: u32) -> Fault
-    ensures { (block : List ℕ) → 4194304 < length block → Verdict «module» block (Some result) }
+    ensures { (block : List ℕ) → LONGEST_BLOCK < length block → Verdict «module» block (Some result) }
 {
-    // One conversion here and in `answers`, of which neither is below the other; the promise is that of `too_long`.
+    // The same call as in `answers`: callers of each crate are promised it under this name.
     Fault::from(TreeFault::too_long(module))
 }
 

@@ -4,7 +4,7 @@
 ghost use Rattle.std.specs.Prelude.{◌≡◌, ◌||◌, ◌==◌};
 
 use answers::{LONGEST_BLOCK, ReportText, answer_stream, report_for};
-use anyhow::{Context, anyhow, bail, ensure};
+use anyhow::{Context, bail, ensure};
 use std::env::Args;
 use std::fs::File;
 use std::io::{BufReader, BufWriter, Read, Write};
@@ -40,11 +40,9 @@ fn may_be_given(sizes: usize) -> bool
 }
 
 /// Answers a stream of blocks on the standard input. The four numbers are sizes of tables that no answer fills yet.
-fn findings_command(rt: &HostRuntime, args: Args) -> anyhow::Result<()> {
-    let sizes: Vec<u32> = args
-        .map(|size| size.as_str().parse::<u32>().map_err(|_| anyhow!(USAGE)))
-        .try_collect(rt.alloc())?;
-    ensure!(may_be_given(sizes.len()), USAGE);
+fn findings_command(rt: &HostRuntime, mut args: Args) -> anyhow::Result<()> {
+    ensure!(may_be_given(args.len()), USAGE);
+    ensure!(args.all(|size| size.as_str().parse::<u32>().is_ok()), USAGE);
     let mut input = BufReader::new(rt.alloc(), rt.stdin())?;
     let mut output = BufWriter::new(rt.alloc(), rt.stdout())?;
     answer_stream(rt.alloc(), &mut input, &mut output)?;

@@ -50,6 +50,8 @@ pub type Places<'a> = Listed<'a, Place, ByNumbers>;
 pub type Bindings<'a> = Listed<'a, Binding, ByNumbers>;
 
 /// The lists of one module, each after its letter: `b ROWS e ROWS r ROWS u ROWS`.
+// Beside `FindingsTables` of `findings`: one struct for both would have to stand here, where it is printed, and the
+// tables would then come from here.
 #[derive(Clone, Copy)]
 pub struct Lists<'a> {
     pub bindings: &'a [Binding],

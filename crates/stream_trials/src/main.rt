@@ -7,6 +7,7 @@ use std::io::{BufReader, BufWriter, Write};
 
 /// Answers the standard input.
 fn main(rt: HostRuntime) -> io::Result<()> {
+    // As `export_names findings` does, which is a program and no library.
     let mut input = BufReader::new(rt.alloc(), rt.stdin())?;
     let mut output = BufWriter::new(rt.alloc(), rt.stdout())?;
     answer_stream(rt.alloc(), &mut input, &mut output)?;
