@@ -1,4 +1,4 @@
-//! A stream of blocks, each after its length as a 32-bit little-endian number: one line for each block.
+//! Streams: block after block, each announced by its length in four bytes, and each answered by a line.
 ghost use Rattle.std.specs.Prelude.{◌≡◌, ◌≤◌, ◌<◌, length, take, IfOk, IfSome, OnOk, Some, codes};
 ghost use Rattle.std.specs.Io.KnownBytes.{Consumes, IsAtEnd};
 ghost use Rattle.answers.specs.Stream.{AnswersAll, NextLength, NextLine, Takes, Within, announced_by, kept_of, sized};

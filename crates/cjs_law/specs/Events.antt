@@ -25,7 +25,7 @@ abbrev pub export_if : Bool → Place → Event
 export_if true p = Export p
 export_if false p = Unsafe p
 
--- a VarDecl: each Declarator of an Ident with a require value binds it
+-- what one Declarator binds: its name, where that is an Ident, to the specifier that its initializer requires
 
 abbrev pub visit_declarator : List ℕ → Node → Option Event
 visit_declarator T d = do
@@ -92,7 +92,7 @@ visit_value T n = cond (is object n) (each (visit_prop T) n.kids) (once (visit_e
 abbrev pub assign_right : Node → Option Node
 assign_right n = nat_eq n.row.mark 0 >> child 1 n.kids
 
--- an Assign of mark 0 hands on to its own right side
+-- the right side of an assignment to the exports object; where it is itself an Assign by `=`, the right side of that
 abbrev pub visit_exports_right_expr : List ℕ → Row → Forest → List Event
 visit_exports_right_expr T r nil = visit_value T (record { row = r; kids = nil })
 visit_exports_right_expr T r (node j x xs nil) = visit_value T (record { row = r; kids = node j x xs nil })

@@ -1,4 +1,4 @@
-//! The ends of rows: each above its own number, and at most the end of every enclosing row.
+//! Where rows end: each after itself, and no row later than one around it.
 ghost use Rattle.std.specs.Prelude.{◌≡◌, ◌<◌, ◌≤◌, min, length, MatchOption, MatchResult, Some};
 ghost use Rattle.tree.specs.Block.{rows_of};
 ghost use Rattle.tree.specs.First.{First, Covered};

@@ -1,4 +1,4 @@
-use Rattle.std.proofs.Common.{rules, ◌≡◌, ap}
+use Rattle.std.proofs.Common.{rules, ◌≡◌}
 use borrow.Author.Tests.{tests}
 use Rattle.text.specs.Reading.{marked}
 use Rattle.text.proofs.Bytewise.{marked_from_any}
