@@ -38,24 +38,24 @@ fn script<F: Fn(u32) -> u32>(heap: Global, count: u32, end: F) -> Result<Vec<u8>
 }
 
 /// A script of so many rows, all but the first of them children of the first.
-pub fn flat(heap: Global, count: u32) -> Result<Vec<u8>, AllocError> {
+pub(crate) fn flat(heap: Global, count: u32) -> Result<Vec<u8>, AllocError> {
     script(heap, count, |j| j.saturating_add(1))
 }
 
 /// A script of so many rows, each under the one before.
-pub fn chain(heap: Global, count: u32) -> Result<Vec<u8>, AllocError> {
+pub(crate) fn chain(heap: Global, count: u32) -> Result<Vec<u8>, AllocError> {
     script(heap, count, |_| count)
 }
 
 /// A script of one row in a block of so many bytes.
-pub fn padded(heap: Global, length: usize) -> Result<Vec<u8>, AllocError> {
+pub(crate) fn padded(heap: Global, length: usize) -> Result<Vec<u8>, AllocError> {
     let mut block = flat(heap, 1)?;
     block.resize(length, 0xff)?;
     Ok(block)
 }
 
 /// A stream of the largest block, one of another length, and a small one.
-pub fn framed(heap: Global, length: u32) -> Result<Vec<u8>, AllocError> {
+pub(crate) fn framed(heap: Global, length: u32) -> Result<Vec<u8>, AllocError> {
     let mut stream = Vec::new(heap);
     for count in [LONGEST_BLOCK as u32, length, 36] {
         put(&mut stream, &[count])?;

@@ -6,7 +6,7 @@ use Rattle.table.specs.Table.{InOrder, later, place, without}
 use Rattle.table.specs.Totals.{numbers_total}
 use Rattle.table.proofs.Rising.{ordered_entered, ordered_kept}
 use Rattle.text.specs.Reading.{order}
-use Rattle.text.proofs.Orders.{order_same}
+use Rattle.std.proofs.lemmas.Map.Lookups.{exact_bytes}
 use Rattle.cjs_law.specs.Lists.{In, First, Has, Lists, insert, insert_all}
 use Rattle.cjs_law.proofs.Ascending.{Above, Ascends, ascends_from}
 use Rattle.cjs_law.proofs.Order.{greater_apart, less_apart, order_own}
@@ -89,7 +89,7 @@ module _ {X : Type 0} (key : X → List ℕ) where
 
   comes_by : (r y : X) (ys : List X) (o : Ordering) → order (key r) (key y) ≡ o → (Has key (key r) (y ∷ ys) → ⊥) → ((Has key (key r) ys → ⊥) → In r (insert key r ys)) → In r (match_ordering o (r ∷ y ∷ ys) (y ∷ ys) (y ∷ insert key r ys))
   comes_by r y ys Less e n f = inl refl
-  comes_by r y ys Equal e n f = absurd (n (y, inl refl, sym (order_same (key r) (key y) e)))
+  comes_by r y ys Equal e n f = absurd (n (y, inl refl, sym (exact_bytes (key r) (key y) e)))
   comes_by r y ys Greater e n f = inr (f (λ h. n (h.0, inr h.1, h.2)))
 
   comes : (r : X) (xs : List X) → (Has key (key r) xs → ⊥) → In r (insert key r xs)
@@ -120,7 +120,7 @@ module _ {X : Type 0} (key : X → List ℕ) where
 
   has_by : (k : List ℕ) (y : X) (ys : List X) (o : Ordering) → order (key y) k ≡ o → (Has key k ys → FirstOf k ys) → Has key k (y ∷ ys) → FirstOf k (y ∷ ys)
   has_by k y ys Less e f h = has_later k y ys (less_apart (key y) k e) f h
-  has_by k y ys Equal e f h = (y, inl refl, order_same (key y) k e)
+  has_by k y ys Equal e f h = (y, inl refl, exact_bytes (key y) k e)
   has_by k y ys Greater e f h = has_later k y ys (greater_apart (key y) k e) f h
 
   pub has_first : (k : List ℕ) (xs : List X) → Has key k xs → FirstOf k xs
@@ -231,7 +231,7 @@ module _ {X : Type 0} (key : X → List ℕ) where
 
   has_placed_by : (k : List ℕ) (x : X) (xs : List X) (o : Ordering) → order k (key x) ≡ o → (is_err (place order k (map key xs)) ≡ false → Has key k xs) → is_err (match_ordering o (Err 0) (Ok 0) (later (place order k (map key xs)))) ≡ false → Has key k (x ∷ xs)
   has_placed_by k x xs Less e f t = absurd (true≢false t)
-  has_placed_by k x xs Equal e f t = (x, inl refl, sym (order_same k (key x) e))
+  has_placed_by k x xs Equal e f t = (x, inl refl, sym (exact_bytes k (key x) e))
   has_placed_by k x xs Greater e f t = let h = f (sym (later_err (place order k (map key xs))) ∙ t) in (h.0, inr h.1, h.2)
 
   pub has_placed : (k : List ℕ) (xs : List X) → is_err (place order k (map key xs)) ≡ false → Has key k xs

@@ -3,7 +3,7 @@ use Rattle.std.proofs.Common.{◌≡◌, ℕ, ◌⊎◌, List, [], ◌∷◌, �
 use Rattle.std.specs.Ordering.{match_ordering}
 use Rattle.table.specs.Table.{put_row}
 use Rattle.text.specs.Reading.{order}
-use Rattle.text.proofs.Orders.{order_same}
+use Rattle.std.proofs.lemmas.Map.Lookups.{exact_bytes}
 use Rattle.cjs_law.specs.Lists.{In, Lists, insert, insert_all}
 use Rattle.table.specs.Totals.{numbers_total}
 use Rattle.table.proofs.Rising.{ordered_entered}
@@ -27,7 +27,7 @@ module _ {X : Type 0} (key : X → List ℕ) where
   in_by x a y ys Less e h f i = ⊎_elim (λ q. inl q)
       (λ j. inr ((λ q. not_own key (key a) x (sym q) (above_in key (key a) x (y ∷ ys) (e, above_less key (key a) (key y) ys e h.0) j)), j)) i
   in_by x a y ys Equal e h f i = ⊎_elim (λ q. inl q)
-      (λ j. inr ((λ q. not_own key (key y) x (sym q ∙ order_same (key a) (key y) e) (above_in key (key y) x ys h.0 j)), inr j)) i
+      (λ j. inr ((λ q. not_own key (key y) x (sym q ∙ exact_bytes (key a) (key y) e) (above_in key (key y) x ys h.0 j)), inr j)) i
   in_by x a y ys Greater e h f i = ⊎_elim
       (λ q. inr ((λ g. greater_apart (key a) (key y) e (g ∙ ap key q)), inl q)) (λ j. over_more x a y ys (f j)) i
 
@@ -46,7 +46,7 @@ module _ {X : Type 0} (key : X → List ℕ) where
 
   stays_by : (x a y : X) (ys : List X) (o : Ordering) → order (key a) (key y) ≡ o → (key a ≡ key x → ⊥) → (In x ys → In x (put a ys)) → In x (y ∷ ys) → In x (match_ordering o (a ∷ y ∷ ys) (a ∷ ys) (y ∷ put a ys))
   stays_by x a y ys Less e n f i = inr i
-  stays_by x a y ys Equal e n f (inl q) = absurd (n (order_same (key a) (key y) e ∙ ap key (sym q)))
+  stays_by x a y ys Equal e n f (inl q) = absurd (n (exact_bytes (key a) (key y) e ∙ ap key (sym q)))
   stays_by x a y ys Equal e n f (inr i) = inr i
   stays_by x a y ys Greater e n f (inl q) = inl q
   stays_by x a y ys Greater e n f (inr i) = inr (f i)

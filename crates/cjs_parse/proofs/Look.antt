@@ -12,7 +12,7 @@ use Rattle.table.proofs.Places.{found}
 use Rattle.table.proofs.Rising.{rows_rise}
 use Rattle.text.specs.Reading.{order}
 use Rattle.text.specs.declared.place.Place.{Place}
-use Rattle.text.proofs.Orders.{order_same}
+use Rattle.std.proofs.lemmas.Map.Lookups.{exact_bytes}
 use Rattle.cjs_law.specs.Findings.{by_name}
 use Rattle.cjs_law.specs.Lists.{In}
 use Rattle.cjs_law.proofs.Ascending.{Ascends, ascends_from}
@@ -48,7 +48,7 @@ module _ (T : List ℕ) (key : List ℕ) (d : Binding) where
   looked_by : (x : Binding) (xs : List Binding) (o : Ordering) → order key (by_name T x) ≡ o → Ascends (by_name T) (x ∷ xs) → value_at xs (place order key (map (by_name T) xs)) ≡ look T xs key →
       value_at (x ∷ xs) (match_ordering o (Err 0) (Ok 0) (later (place order key (map (by_name T) xs)))) ≡ look T (x ∷ xs) key
   looked_by x xs Less e a h = sym (none_looked T key (x ∷ xs) (λ b i q. not_own (by_name T) key b q (above_in (by_name T) key b (x ∷ xs) (e, above_less (by_name T) key (by_name T x) xs e a.0) i)))
-  looked_by x xs Equal e a h = ap (λ t. cond t (Some x.value) (look T xs key)) (sym (is_same T key (by_name T x) (sym (order_same key (by_name T x) e))))
+  looked_by x xs Equal e a h = ap (λ t. cond t (Some x.value) (look T xs key)) (sym (is_same T key (by_name T x) (sym (exact_bytes key (by_name T x) e))))
   looked_by x xs Greater e a h =
       later_value x xs (place order key (map (by_name T) xs)) ∙ h
       ∙ ap (λ t. cond t (Some x.value) (look T xs key)) (sym (not_same T key (by_name T x) (λ q. greater_apart key (by_name T x) e (sym q))))

@@ -24,7 +24,7 @@ impl fmt::Display for Hex<'_> {
 }
 
 /// Whether the text is UTF-8, is WTF-8 and has a plain reading, and its loose reading.
-pub fn show_text(rt: HostRuntime, bytes: &[u8]) -> io::Result<()> {
+pub(crate) fn show_text(rt: HostRuntime, bytes: &[u8]) -> io::Result<()> {
     let mut out = [0; 16];
     let text = Hex(bytes);
     let (utf8, wtf8) = (is_utf8(bytes), is_wtf8(bytes));
@@ -37,7 +37,7 @@ pub fn show_text(rt: HostRuntime, bytes: &[u8]) -> io::Result<()> {
 }
 
 /// The order of two texts by their loose readings, and whether these are equal.
-pub fn show_order(rt: HostRuntime, a: &[u8], b: &[u8]) -> io::Result<()> {
+pub(crate) fn show_order(rt: HostRuntime, a: &[u8], b: &[u8]) -> io::Result<()> {
     // Not by `{:?}`, which has a capital.
     let order = match compare_loose(a, b) {
         Ordering::Less => "less",
@@ -48,7 +48,7 @@ pub fn show_order(rt: HostRuntime, a: &[u8], b: &[u8]) -> io::Result<()> {
 }
 
 /// Where a loose reading ends that is written over `size` bytes of `#`, and what they then hold.
-pub fn show_writing(rt: HostRuntime, text: &[u8], size: usize, at: usize) -> io::Result<()> {
+pub(crate) fn show_writing(rt: HostRuntime, text: &[u8], size: usize, at: usize) -> io::Result<()> {
     let mut room = [b'#'; 16];
     let length = size.min(room.len());
     let out = &mut room[..length];
@@ -61,12 +61,12 @@ pub fn show_writing(rt: HostRuntime, text: &[u8], size: usize, at: usize) -> io:
 }
 
 /// The number at an offset.
-pub fn show_number(rt: HostRuntime, bytes: &[u8], at: usize) -> io::Result<()> {
+pub(crate) fn show_number(rt: HostRuntime, bytes: &[u8], at: usize) -> io::Result<()> {
     println!(rt; "number {} {at} {}", Hex(bytes), read_le32(bytes, at))
 }
 
 /// The stretch at an offset, by the function and by a place.
-pub fn show_part(rt: HostRuntime, bytes: &[u8], offset: u32, length: u32) -> io::Result<()> {
+pub(crate) fn show_part(rt: HostRuntime, bytes: &[u8], offset: u32, length: u32) -> io::Result<()> {
     let by_function = Hex(part(bytes, offset as usize, length as usize));
     let by_place = Hex(Place { offset, length }.part(bytes));
     println!(rt;
@@ -76,6 +76,6 @@ pub fn show_part(rt: HostRuntime, bytes: &[u8], offset: u32, length: u32) -> io:
 }
 
 /// Whether a text is a word.
-pub fn show_word(rt: HostRuntime, text: &[u8], word: &[u8]) -> io::Result<()> {
+pub(crate) fn show_word(rt: HostRuntime, text: &[u8], word: &[u8]) -> io::Result<()> {
     println!(rt; "word {} {} {}", Hex(text), Hex(word), is_word(text, word))
 }

@@ -122,7 +122,7 @@ fn show_each(rt: HostRuntime, texts: &[&[u8]]) -> io::Result<()> {
 }
 
 /// Shows all texts.
-pub fn show_texts(rt: HostRuntime) -> io::Result<()> {
+pub(crate) fn show_texts(rt: HostRuntime) -> io::Result<()> {
     show_each(rt, &BOUNDS)?;
     show_each(rt, &SURROGATES)?;
     show_each(rt, &DAMAGED_SURROGATES)?;
