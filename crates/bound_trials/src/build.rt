@@ -1,5 +1,4 @@
 //! Large blocks, made in memory.
-use answers::LONGEST_BLOCK;
 use kinds::kind::Kind;
 use std::alloc::{AllocError, Global};
 
@@ -54,12 +53,12 @@ pub(crate) fn padded(heap: Global, length: usize) -> Result<Vec<u8>, AllocError>
     Ok(block)
 }
 
-/// A stream of the largest block, one of another length, and a small one.
-pub(crate) fn framed(heap: Global, length: u32) -> Result<Vec<u8>, AllocError> {
+/// A stream of blocks of so many bytes, each a script of one row.
+pub(crate) fn framed(heap: Global, lengths: &[u32]) -> Result<Vec<u8>, AllocError> {
     let mut stream = Vec::new(heap);
-    for count in [LONGEST_BLOCK as u32, length, 36] {
-        put(&mut stream, &[count])?;
-        stream.extend_from_slice(&padded(heap, count as usize)?)?;
+    for length in lengths {
+        put(&mut stream, &[*length])?;
+        stream.extend_from_slice(&padded(heap, *length as usize)?)?;
     }
     Ok(stream)
 }

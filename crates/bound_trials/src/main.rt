@@ -34,9 +34,8 @@ fn blocks(rt: &HostRuntime) -> io::Result<()> {
     show(rt, "one byte more", &padded(heap, LONGEST_BLOCK + 1)?)
 }
 
-/// Streams that are empty, cut short, or hold a block that is too long.
-fn streams(rt: &HostRuntime) -> io::Result<()> {
-    let heap = rt.alloc();
+/// Streams that are empty or cut short. The last two end inside a block of almost 2^32 bytes.
+fn short_streams(rt: &HostRuntime) -> io::Result<()> {
     show_stream(rt, "no block", b"")?;
     show_stream(rt, "one byte of a length", b"\x00")?;
     show_stream(rt, "two bytes of a length", b"\x00\x00")?;
@@ -47,12 +46,39 @@ fn streams(rt: &HostRuntime) -> io::Result<()> {
         "an empty block and a block cut short",
         b"\x00\x00\x00\x00\x02\x00\x00\x00a",
     )?;
+    // Four zero bytes of it are there: taken for the next length, they would get a line of their own.
+    show_stream(
+        rt,
+        "a block of 4294967295 bytes cut short",
+        b"\xff\xff\xff\xff\x00\x00\x00\x00",
+    )?;
+    show_stream(
+        rt,
+        "a block of 4294967292 bytes cut short",
+        b"\xfc\xff\xff\xff\x00\x00\x00\x00",
+    )
+}
+
+/// Streams with a block that is too long and a small one after it: the last one is cut short inside the long block.
+fn long_streams(rt: &HostRuntime) -> io::Result<()> {
+    let heap = rt.alloc();
+    let longest = LONGEST_BLOCK as u32;
     show_stream(
         rt,
         "the largest block, one byte more, and a small one",
-        &framed(heap, LONGEST_BLOCK as u32 + 1)?,
+        &framed(heap, &[longest, longest + 1, 36])?,
     )?;
-    let whole = framed(heap, 4_194_400)?;
+    show_stream(
+        rt,
+        "twice the largest length, and a small block",
+        &framed(heap, &[2 * longest, 36])?,
+    )?;
+    show_stream(
+        rt,
+        "one byte more than twice the largest length, and a small block",
+        &framed(heap, &[2 * longest + 1, 36])?,
+    )?;
+    let whole = framed(heap, &[longest, 4_194_400])?;
     let cut = whole.len().min(8_388_700);
     show_stream(
         rt,
@@ -64,5 +90,6 @@ fn streams(rt: &HostRuntime) -> io::Result<()> {
 /// Prints all of them.
 fn main(rt: HostRuntime) -> io::Result<()> {
     blocks(&rt)?;
-    streams(&rt)
+    short_streams(&rt)?;
+    long_streams(&rt)
 }
