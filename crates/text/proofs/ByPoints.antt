@@ -1,11 +1,11 @@
 -- The readings by code points.
-use Rattle.std.proofs.Common.{◌≡◌, ℕ, suc, ◌<◌, Bool, true, false, cond, ◌||◌, List, [], ◌∷◌, ◌++◌, map, length, is_some, Some, None, IsUtf8, Decides, sym, refl, ap, ◌∙◌, inl, inr, ⊎_elim, arith}
+use Rattle.std.proofs.Common.{◌≡◌, ℕ, suc, ◌<◌, Bool, true, false, cond, ◌||◌, List, [], ◌∷◌, ◌++◌, map, length, is_some, Some, None, IsUtf8, Decides, sym, refl, ap, ◌∙◌, inl, inr, ⊎_elim}
 use lib.Utf8.{encode, encodes, scalar, scalars, scalar_cases}
 use Rattle.std.proofs.lemmas.Bool.{cond-true, cond-false, cond_both, and_parts, and_from, or_parts, or_from, ltb-true}
-use Rattle.std.proofs.lemmas.Bool.Decides.{nat_tests}
 use Rattle.text.specs.Points.{points, Wtf8}
 use Rattle.text.specs.Reading.{loose_after, loose, begins, marked, plain}
 use Rattle.text.specs.Laws.{surrogate, replaced, any_surrogate, PlainByCodePoints, LooseByCodePoints}
+use Rattle.text.proofs.Wellformed.{scalar_from}
 use Rattle.text.proofs.OnePoint.{no_surrogate, reads_point}
 
 loose_encodes : (cs : List ℕ) → loose (encodes cs) ≡ encodes (map replaced cs)
@@ -26,9 +26,6 @@ pub length_loose : (bs : List ℕ) → length (loose bs) ≡ length bs
 length_loose = length_after []
 
 -- code points are scalar values where no surrogate is among them
-scalar_from : (c : ℕ) → c < 1114112 → surrogate c ≡ false → scalar c ≡ true
-scalar_from c u e = grind (arith, nat_tests)
-
 scalars_from : (cs : List ℕ) → points cs ≡ true → any_surrogate cs ≡ false → scalars cs ≡ true
 scalars_from [] p s = refl
 scalars_from (c ∷ cs) p s =

@@ -1,10 +1,12 @@
 -- The bytes that encode a code point, by their ranges: bytes in the ranges encode one, and no other bytes do.
-use Rattle.std.proofs.Common.{◌≡◌, ℕ, ◌+◌, ◌-◌, ◌*◌, ◌/◌, ◌<◌, ◌≤◌, ◌⊎◌, List, [], ◌∷◌, ◌++◌, length, get_or, Some, Result, Ok, Err, IsErr, sym, ap, ◌∙◌, ⊎_elim, arith}
+use Rattle.std.proofs.Common.{◌≡◌, ℕ, ◌+◌, ◌-◌, ◌*◌, ◌/◌, ◌%◌, ◌<◌, ◌≤◌, List, [], ◌∷◌, ◌++◌, length, get_or, Bool, Decides, Some, Ok, sym, ap, ◌∙◌, ⊎_elim, arith}
+use lib.ListN.{take, drop}
+use lib.Seq.{take_all}
 use lib.Utf8.{encode, next}
-use Rattle.std.proofs.lemmas.Bool.{false≢true, cond-true, cond-false, lt-ltb, le-ltb, cases_lt}
+use Rattle.std.proofs.lemmas.Bool.{cond-true, cond-false, lt-ltb, le-ltb, cases_lt}
 use Rattle.std.proofs.lemmas.Str.{encode_ascii}
-use Rattle.text.specs.Points.{NoPoint, GoesOn, Leads}
-use Rattle.text.specs.declared.points.Malformed.{Malformed}
+use Rattle.std.specs.Int.{IsInRange}
+use Rattle.text.specs.Points.{OnePoint, NoPoint, Leads}
 
 encode_two : (n : ℕ) → 128 ≤ n → n < 2048 → encode n ≡ (192 + n / 64) ∷ next n ∷ []
 unfolding encode
@@ -28,156 +30,141 @@ pub data Shape (n : ℕ) : Type 0 where
 pub shape : (n : ℕ) → Shape n
 shape n = ⊎_elim (λ h. one_byte h (encode_ascii n h)) (λ l. ⊎_elim (λ h. two_bytes l h (encode_two n l h)) (λ m. ⊎_elim (λ h. three_bytes m h (encode_three n m h)) (λ k. four_bytes k (encode_four n k)) (cases_lt n 65536)) (cases_lt n 2048)) (cases_lt n 128)
 
--- the first byte a of a code point's encoding, and the bytes after that, by the width
-data Read (a : ℕ) (bs : List ℕ) : Type 0 where
-  alone : a < 128 → Read a bs
-  before_one : (b : ℕ) (t : List ℕ) → 194 ≤ a → a < 224 → 128 ≤ b → b < 192 → bs ≡ b ∷ t → Read a bs
-  before_two : (b d : ℕ) (t : List ℕ) → 224 ≤ a → a < 240 → 128 ≤ b → b < 192 → 32 ≤ (a - 224) * 64 + (b - 128) → 128 ≤ d → d < 192 → bs ≡ b ∷ d ∷ t → Read a bs
-  before_three : (b d f : ℕ) (t : List ℕ) → 240 ≤ a → a < 245 → 128 ≤ b → b < 192 → 16 ≤ (a - 240) * 64 + (b - 128) → (a - 240) * 64 + (b - 128) < 272 → 128 ≤ d → d < 192 → 128 ≤ f → f < 192 → bs ≡ b ∷ d ∷ f ∷ t → Read a bs
+-- the bytes that encode a code point in two, three and four bytes, by their ranges
+abbrev pub Two : ℕ → ℕ → Type 0
+Two a b = IsInRange 0xC2 0xDF a × IsInRange 0x80 0xBF b
 
-abbrev tail : List ℕ → List ℕ
-tail [] = []
-tail (x ∷ xs) = xs
+abbrev pub Three : ℕ → ℕ → ℕ → Type 0
+Three a b c = IsInRange 0xE0A0 0xEFBF (a * 256 + b) × IsInRange 0x80 0xBF b × IsInRange 0x80 0xBF c
 
-reads : (a : ℕ) (bs : List ℕ) (n : ℕ) (rest : List ℕ) → n < 1114112 → a ∷ bs ≡ encode n ++ rest → Read a bs
-reads a bs n rest u e = by (shape n)
+abbrev pub Four : ℕ → ℕ → ℕ → ℕ → Type 0
+Four a b c d = IsInRange 0xF090 0xF48F (a * 256 + b) × IsInRange 0x80 0xBF b × IsInRange 0x80 0xBF c × IsInRange 0x80 0xBF d
+
+-- their code points
+abbrev pub two : ℕ → ℕ → ℕ
+two a b = a % 32 * 64 + b % 64
+
+abbrev pub three : ℕ → ℕ → ℕ → ℕ
+three a b c = (a % 16 * 64 + b % 64) * 64 + c % 64
+
+abbrev pub four : ℕ → ℕ → ℕ → ℕ → ℕ
+four a b c d = ((a % 8 * 64 + b % 64) * 64 + c % 64) * 64 + d % 64
+
+two_read : (a b n : ℕ) → n < 1114112 → encode n ≡ a ∷ b ∷ [] → Two a b × (n ≡ two a b)
+two_read a b n u e = by (shape n)
   where
-    by : Shape n → Read a bs
-    by (one_byte h k) = let p = ap (λ l. get_or l 0 0) (e ∙ ap (λ p. p ++ rest) k) in alone (omega arith)
+    by : Shape n → Two a b × (n ≡ two a b)
+    by (one_byte h k) = absurd (omega (arith, ap length (sym e ∙ k)))
     by (two_bytes l h k) =
-        let q = e ∙ ap (λ p. p ++ rest) k in
-        let p = ap (λ l. get_or l 0 0) q in
-        before_one (next n) rest (omega arith) (omega arith) (omega arith) (omega arith) (ap tail q)
+        let p = ap (λ l. get_or l 0 0) (sym e ∙ k) in
+        let q = ap (λ l. get_or l 1 0) (sym e ∙ k) in
+        (((omega arith, omega arith), (omega arith, omega arith)), omega arith)
+    by (three_bytes l h k) = absurd (omega (arith, ap length (sym e ∙ k)))
+    by (four_bytes l k) = absurd (omega (arith, ap length (sym e ∙ k)))
+
+three_read : (a b c n : ℕ) → n < 1114112 → encode n ≡ a ∷ b ∷ c ∷ [] → Three a b c × (n ≡ three a b c)
+three_read a b c n u e = by (shape n)
+  where
+    by : Shape n → Three a b c × (n ≡ three a b c)
+    by (one_byte h k) = absurd (omega (arith, ap length (sym e ∙ k)))
+    by (two_bytes l h k) = absurd (omega (arith, ap length (sym e ∙ k)))
     by (three_bytes l h k) =
-        let q = e ∙ ap (λ p. p ++ rest) k in
-        let p = ap (λ l. get_or l 0 0) q in
-        before_two (next (n / 64)) (next n) rest (omega arith) (omega arith) (omega arith) (omega arith) (omega arith) (omega arith) (omega arith) (ap tail q)
+        let p = ap (λ l. get_or l 0 0) (sym e ∙ k) in
+        let q = ap (λ l. get_or l 1 0) (sym e ∙ k) in
+        let r = ap (λ l. get_or l 2 0) (sym e ∙ k) in
+        (((omega arith, omega arith), (omega arith, omega arith), (omega arith, omega arith)), omega arith)
+    by (four_bytes l k) = absurd (omega (arith, ap length (sym e ∙ k)))
+
+four_read : (a b c d n : ℕ) → n < 1114112 → encode n ≡ a ∷ b ∷ c ∷ d ∷ [] → Four a b c d × (n ≡ four a b c d)
+four_read a b c d n u e = by (shape n)
+  where
+    by : Shape n → Four a b c d × (n ≡ four a b c d)
+    by (one_byte h k) = absurd (omega (arith, ap length (sym e ∙ k)))
+    by (two_bytes l h k) = absurd (omega (arith, ap length (sym e ∙ k)))
+    by (three_bytes l h k) = absurd (omega (arith, ap length (sym e ∙ k)))
     by (four_bytes l k) =
-        let q = e ∙ ap (λ p. p ++ rest) k in
-        let p = ap (λ l. get_or l 0 0) q in
-        before_three (next (n / 4096)) (next (n / 64)) (next n) rest (omega arith) (omega arith) (omega arith) (omega arith) (omega arith) (omega arith) (omega arith) (omega arith) (omega arith) (omega arith) (ap tail q)
+        let p = ap (λ l. get_or l 0 0) (sym e ∙ k) in
+        let q = ap (λ l. get_or l 1 0) (sym e ∙ k) in
+        let r = ap (λ l. get_or l 2 0) (sym e ∙ k) in
+        let s = ap (λ l. get_or l 3 0) (sym e ∙ k) in
+        (((omega arith, omega arith), (omega arith, omega arith), (omega arith, omega arith), (omega arith, omega arith)), omega arith)
 
--- no code point begins, and `after` is left
-abbrev pub Refused : List ℕ → List ℕ → Type 0
-Refused before after = NoPoint before × (length after < length before)
+two_encodes : (a b : ℕ) → Two a b → OnePoint (a ∷ b ∷ [])
+two_encodes a b h =
+    let n = two a b in
+    let p : 192 + n / 64 ≡ a = omega arith in
+    let q : next n ≡ b = omega arith in
+    (n, (omega arith), encode_two n (omega arith) (omega arith) ∙ (λ i. p i ∷ q i ∷ []))
 
--- an error, however it is written
-pub refused : (before after : List ℕ) (r : Result ℕ Malformed) → IsErr r → Refused before after → Leads before (Some r) after
-refused before after (Ok n) is none = absurd (false≢true is)
-refused before after (Err e) is none = none
+three_encodes : (a b c : ℕ) → Three a b c → OnePoint (a ∷ b ∷ c ∷ [])
+three_encodes a b c h =
+    let n = three a b c in
+    let m : n / 64 ≡ a % 16 * 64 + b % 64 = omega arith in
+    let p : 224 + n / 4096 ≡ a = omega arith in
+    let q : next (n / 64) ≡ b = ap next m ∙ (omega arith) in
+    let r : next n ≡ c = omega arith in
+    (n, (omega arith), encode_three n (omega arith) (omega arith) ∙ (λ i. p i ∷ q i ∷ r i ∷ []))
 
--- the bytes bs after a first byte a that rule every code point out
-module _ (a : ℕ) (bs : List ℕ) where
-  nothing_begins : (Read a bs → ⊥) → NoPoint (a ∷ bs)
-  nothing_begins none n rest u e = none (reads a bs n rest u e)
+four_encodes : (a b c d : ℕ) → Four a b c d → OnePoint (a ∷ b ∷ c ∷ d ∷ [])
+four_encodes a b c d h =
+    let n = four a b c d in
+    let o : n / 4096 ≡ a % 8 * 64 + b % 64 = omega arith in
+    let m : n / 64 ≡ (a % 8 * 64 + b % 64) * 64 + c % 64 = omega arith in
+    let p : 240 + n / 262144 ≡ a = omega arith in
+    let q : next (n / 4096) ≡ b = ap next o ∙ (omega arith) in
+    let r : next (n / 64) ≡ c = ap next m ∙ (omega arith) in
+    let s : next n ≡ d = omega arith in
+    (n, (omega arith), encode_four n (omega arith) ∙ (λ i. p i ∷ q i ∷ r i ∷ s i ∷ []))
 
-  pub no_first : 128 ≤ a → (a < 194) ⊎ (245 ≤ a) → Refused (a ∷ bs) bs
-  no_first l h = (nothing_begins by, omega arith)
-    where
-      by : Read a bs → ⊥
-      by (alone small) = omega arith
-      by (before_one x xs from to x-from x-to is) = ⊎_elim (λ v. omega arith) (λ v. omega arith) h
-      by (before_two x y xs from to x-from x-to above y-from y-to is) = ⊎_elim (λ v. omega arith) (λ v. omega arith) h
-      by (before_three x y z xs from to x-from x-to above below y-from y-to z-from z-to is) = ⊎_elim (λ v. omega arith) (λ v. omega arith) h
+-- a test of the ranges decides whether the bytes encode a code point
+pub two_decides : (r : Bool) (a b : ℕ) → Decides r (Two a b) → Decides r (OnePoint (a ∷ b ∷ []))
+two_decides r a b t = ((λ e. two_encodes a b (t.0 e)), λ w. t.1 (two_read a b w.0 w.1 w.2).0)
 
-  no_second : 194 ≤ a → a < 224 → ((x : ℕ) (xs : List ℕ) → 128 ≤ x → x < 192 → bs ≡ x ∷ xs → ⊥) → NoPoint (a ∷ bs)
-  no_second l h none = nothing_begins by
-    where
-      by : Read a bs → ⊥
-      by (alone small) = omega arith
-      by (before_one x xs from to x-from x-to is) = none x xs x-from x-to is
-      by (before_two x y xs from to x-from x-to above y-from y-to is) = omega arith
-      by (before_three x y z xs from to x-from x-to above below y-from y-to z-from z-to is) = omega arith
+pub three_decides : (r : Bool) (a b c : ℕ) → Decides r (Three a b c) → Decides r (OnePoint (a ∷ b ∷ c ∷ []))
+three_decides r a b c t = ((λ e. three_encodes a b c (t.0 e)), λ w. t.1 (three_read a b c w.0 w.1 w.2).0)
 
-  no_third : 224 ≤ a → a < 240
-      → ((x y : ℕ) (xs : List ℕ) → 128 ≤ x → x < 192 → 32 ≤ (a - 224) * 64 + (x - 128) → 128 ≤ y → y < 192 → bs ≡ x ∷ y ∷ xs → ⊥)
-      → NoPoint (a ∷ bs)
-  no_third l h none = nothing_begins by
-    where
-      by : Read a bs → ⊥
-      by (alone small) = omega arith
-      by (before_one x xs from to x-from x-to is) = omega arith
-      by (before_two x y xs from to x-from x-to above y-from y-to is) = none x y xs x-from x-to above y-from y-to is
-      by (before_three x y z xs from to x-from x-to above below y-from y-to z-from z-to is) = omega arith
+pub four_decides : (r : Bool) (a b c d : ℕ) → Decides r (Four a b c d) → Decides r (OnePoint (a ∷ b ∷ c ∷ d ∷ []))
+four_decides r a b c d t = ((λ e. four_encodes a b c d (t.0 e)), λ w. t.1 (four_read a b c d w.0 w.1 w.2).0)
 
-  no_fourth : 240 ≤ a → a < 245
-      → ((x y z : ℕ) (xs : List ℕ) → 128 ≤ x → x < 192 → 16 ≤ (a - 240) * 64 + (x - 128) → (a - 240) * 64 + (x - 128) < 272 → 128 ≤ y → y < 192 → 128 ≤ z → z < 192 → bs ≡ x ∷ y ∷ z ∷ xs → ⊥)
-      → NoPoint (a ∷ bs)
-  no_fourth l h none = nothing_begins by
-    where
-      by : Read a bs → ⊥
-      by (alone small) = omega arith
-      by (before_one x xs from to x-from x-to is) = omega arith
-      by (before_two x y xs from to x-from x-to above y-from y-to is) = omega arith
-      by (before_three x y z xs from to x-from x-to above below y-from y-to z-from z-to is) = none x y z xs x-from x-to above below y-from y-to z-from z-to is
+-- bytes that begin with the bytes of a code point
+pub two_begin : (bs : List ℕ) (n : ℕ) → 2 ≤ length bs → OnePoint (get_or bs 0 0 ∷ get_or bs 1 0 ∷ []) → n ≡ two (get_or bs 0 0) (get_or bs 1 0) → Leads bs (Some (Ok n)) (take (length bs - 2) (drop 2 bs))
+two_begin [] n l w e = absurd (omega arith)
+two_begin (a ∷ []) n l w e = absurd (omega arith)
+two_begin (a ∷ b ∷ t) n l w e =
+    let same : n ≡ w.0 = e ∙ sym (two_read a b w.0 w.1 w.2).1 in
+    let all : take (length (a ∷ b ∷ t) - 2) t ≡ t = take_all _ t (omega arith) in
+    (omega arith, sym ((λ i. encode (same i) ++ all i) ∙ ap (λ p. p ++ t) w.2))
 
--- what decoding comes to after a first byte a, whose number is s
-module _ (a s : ℕ) (same : s ≡ a) (bs : List ℕ) where
-  -- two bytes
-  pub two_lead : (after : List ℕ) (r : Result ℕ Malformed) → 194 ≤ a → a < 224 → GoesOn (s - 192) bs r after → Leads (a ∷ bs) (Some r) after
-  two_lead after (Ok n) l h (b, b-from, b-to, e, p) =
-      let at : a ≡ 192 + n / 64 = omega arith in
-      let second : b ≡ next n = omega arith in
-      (omega arith, (λ i. at i ∷ p i) ∙ (λ i. (192 + n / 64) ∷ second i ∷ after) ∙ sym (ap (λ q. q ++ after) (encode_two n (omega arith) (omega arith))))
-  two_lead after (Err e) l h (none, k) = (no_second a bs l h none, omega (arith, ap length k))
+pub three_begin : (bs : List ℕ) (n : ℕ) → 3 ≤ length bs → OnePoint (get_or bs 0 0 ∷ get_or bs 1 0 ∷ get_or bs 2 0 ∷ []) → n ≡ three (get_or bs 0 0) (get_or bs 1 0) (get_or bs 2 0) → Leads bs (Some (Ok n)) (take (length bs - 3) (drop 3 bs))
+three_begin [] n l w e = absurd (omega arith)
+three_begin (a ∷ []) n l w e = absurd (omega arith)
+three_begin (a ∷ b ∷ []) n l w e = absurd (omega arith)
+three_begin (a ∷ b ∷ c ∷ t) n l w e =
+    let same : n ≡ w.0 = e ∙ sym (three_read a b c w.0 w.1 w.2).1 in
+    let all : take (length (a ∷ b ∷ c ∷ t) - 3) t ≡ t = take_all _ t (omega arith) in
+    (omega arith, sym ((λ i. encode (same i) ++ all i) ∙ ap (λ p. p ++ t) w.2))
 
-  -- three bytes
-  pub three_lead : (m : ℕ) (mid after : List ℕ) (r : Result ℕ Malformed) → 224 ≤ a → a < 240 → GoesOn (s - 224) bs (Ok m) mid → 32 ≤ m → GoesOn m mid r after → Leads (a ∷ bs) (Some r) after
-  three_lead m mid after (Ok n) l h (b, b-from, b-to, e, p) least (d, d-from, d-to, f, q) =
-      let at : a ≡ 224 + n / 4096 = omega arith in
-      let above : n / 64 ≡ m = omega arith in
-      let second : b ≡ next (n / 64) = omega arith ∙ sym (ap next above) in
-      let third : d ≡ next n = omega arith in (
-        omega arith,
-        (λ i. at i ∷ (p ∙ (λ j. second j ∷ q j) ∙ (λ j. next (n / 64) ∷ third j ∷ after)) i)
-            ∙ sym (ap (λ l. l ++ after) (encode_three n (omega arith) (omega arith))),
-      )
-  three_lead m mid after (Err e) l h (b, b-from, b-to, f, p) least (none, k) = (
-    no_third a bs l h (λ x y xs x-from x-to above y-from y-to is. none y xs y-from y-to (ap tail (sym p ∙ is))),
-    omega (arith, ap length p, ap length k),
-  )
+pub four_begin : (bs : List ℕ) (n : ℕ) → 4 ≤ length bs → OnePoint (get_or bs 0 0 ∷ get_or bs 1 0 ∷ get_or bs 2 0 ∷ get_or bs 3 0 ∷ []) → n ≡ four (get_or bs 0 0) (get_or bs 1 0) (get_or bs 2 0) (get_or bs 3 0) → Leads bs (Some (Ok n)) (take (length bs - 4) (drop 4 bs))
+four_begin [] n l w e = absurd (omega arith)
+four_begin (a ∷ []) n l w e = absurd (omega arith)
+four_begin (a ∷ b ∷ []) n l w e = absurd (omega arith)
+four_begin (a ∷ b ∷ c ∷ []) n l w e = absurd (omega arith)
+four_begin (a ∷ b ∷ c ∷ d ∷ t) n l w e =
+    let same : n ≡ w.0 = e ∙ sym (four_read a b c d w.0 w.1 w.2).1 in
+    let all : take (length (a ∷ b ∷ c ∷ d ∷ t) - 4) t ≡ t = take_all _ t (omega arith) in
+    (omega arith, sym ((λ i. encode (same i) ++ all i) ∙ ap (λ p. p ++ t) w.2))
 
-  pub three_cut : (after : List ℕ) (e : Malformed) → 224 ≤ a → a < 240 → GoesOn (s - 224) bs (Err e) after → Refused (a ∷ bs) after
-  three_cut after e l h (none, k) = (no_third a bs l h (λ x y xs x-from x-to above y-from y-to is. none x (y ∷ xs) x-from x-to is), omega (arith, ap length k))
-
-  pub three_below : (m : ℕ) (after : List ℕ) → 224 ≤ a → a < 240 → GoesOn (s - 224) bs (Ok m) after → m < 32 → Refused (a ∷ bs) after
-  three_below m after l h (b, b-from, b-to, e, p) below = (
-    no_third a bs l h (λ x y xs x-from x-to above y-from y-to is. let one = ap (λ q. get_or q 0 0) (sym p ∙ is) in omega arith),
-    omega (arith, ap length p),
-  )
-
-  -- four bytes
-  pub four_lead : (m o : ℕ) (mid low after : List ℕ) (r : Result ℕ Malformed) → 240 ≤ a → a < 245 → GoesOn (s - 240) bs (Ok m) mid → 16 ≤ m → m < 272 → GoesOn m mid (Ok o) low → GoesOn o low r after → Leads (a ∷ bs) (Some r) after
-  four_lead m o mid low after (Ok n) l h (b, b-from, b-to, e, p) least most (d, d-from, d-to, f, q) (g, g-from, g-to, i, t) =
-      let at : a ≡ 240 + n / 262144 = omega arith in
-      let high : n / 4096 ≡ m = omega arith in
-      let above : n / 64 ≡ o = omega arith in
-      let second : b ≡ next (n / 4096) = omega arith ∙ sym (ap next high) in
-      let third : d ≡ next (n / 64) = omega arith ∙ sym (ap next above) in
-      let fourth : g ≡ next n = omega arith in (
-        omega arith,
-        (λ k. at k ∷ (p ∙ (λ j. second j ∷ q j) ∙ (λ j. next (n / 4096) ∷ third j ∷ t j) ∙ (λ j. next (n / 4096) ∷ next (n / 64) ∷ fourth j ∷ after)) k)
-            ∙ sym (ap (λ l. l ++ after) (encode_four n (omega arith))),
-      )
-  four_lead m o mid low after (Err e) l h (b, b-from, b-to, i, p) least most (d, d-from, d-to, f, q) (none, k) = (
-    no_fourth a bs l h (λ x y z xs x-from x-to above below y-from y-to z-from z-to is. none z xs z-from z-to (ap tail (sym q ∙ ap tail (sym p ∙ is)))),
-    omega (arith, ap length p, ap length q, ap length k),
-  )
-
-  pub four_cut : (after : List ℕ) (e : Malformed) → 240 ≤ a → a < 245 → GoesOn (s - 240) bs (Err e) after → Refused (a ∷ bs) after
-  four_cut after e l h (none, k) = (
-    no_fourth a bs l h (λ x y z xs x-from x-to above below y-from y-to z-from z-to is. none x (y ∷ z ∷ xs) x-from x-to is),
-    omega (arith, ap length k),
-  )
-
-  pub four_outside : (m : ℕ) (after : List ℕ) → 240 ≤ a → a < 245 → GoesOn (s - 240) bs (Ok m) after → (m < 16) ⊎ (272 ≤ m) → Refused (a ∷ bs) after
-  four_outside m after l h (b, b-from, b-to, e, p) u = (
-    no_fourth a bs l h (λ x y z xs x-from x-to above below y-from y-to z-from z-to is. let one = ap (λ q. get_or q 0 0) (sym p ∙ is) in ⊎_elim (λ v. omega arith) (λ v. omega arith) u),
-    omega (arith, ap length p),
-  )
-
-  pub four_cut_later : (m : ℕ) (mid after : List ℕ) (e : Malformed) → 240 ≤ a → a < 245 → GoesOn (s - 240) bs (Ok m) mid → GoesOn m mid (Err e) after → Refused (a ∷ bs) after
-  four_cut_later m mid after e l h (b, b-from, b-to, f, p) (none, k) = (
-    no_fourth a bs l h (λ x y z xs x-from x-to above below y-from y-to z-from z-to is. none y (z ∷ xs) y-from y-to (ap tail (sym p ∙ is))),
-    omega (arith, ap length p, ap length k),
-  )
+-- where none of the four widths stands, no code point begins
+pub none_begins : (bs : List ℕ)
+    → 128 ≤ get_or bs 0 0
+    → (2 ≤ length bs → ¬ (OnePoint (get_or bs 0 0 ∷ get_or bs 1 0 ∷ [])))
+    → (3 ≤ length bs → ¬ (OnePoint (get_or bs 0 0 ∷ get_or bs 1 0 ∷ get_or bs 2 0 ∷ [])))
+    → (4 ≤ length bs → ¬ (OnePoint (get_or bs 0 0 ∷ get_or bs 1 0 ∷ get_or bs 2 0 ∷ get_or bs 3 0 ∷ [])))
+    → NoPoint bs
+none_begins bs h1 h2 h3 h4 n rest u e = by (shape n)
+  where
+    by : Shape n → ⊥
+    by (one_byte h k) = omega (arith, ap (λ l. get_or l 0 0) (e ∙ ap (λ p. p ++ rest) k))
+    by (two_bytes l h k) = let q = e ∙ ap (λ p. p ++ rest) k in h2 (omega (arith, ap length q)) (n, u, k ∙ sym (ap (λ l. get_or l 0 0 ∷ get_or l 1 0 ∷ []) q))
+    by (three_bytes l h k) = let q = e ∙ ap (λ p. p ++ rest) k in h3 (omega (arith, ap length q)) (n, u, k ∙ sym (ap (λ l. get_or l 0 0 ∷ get_or l 1 0 ∷ get_or l 2 0 ∷ []) q))
+    by (four_bytes l k) = let q = e ∙ ap (λ p. p ++ rest) k in h4 (omega (arith, ap length q)) (n, u, k ∙ sym (ap (λ l. get_or l 0 0 ∷ get_or l 1 0 ∷ get_or l 2 0 ∷ get_or l 3 0 ∷ []) q))

@@ -1,16 +1,15 @@
 -- Code points: reading them from bytes one after the other, and well-formed WTF-8. UTF-8 is std's `IsUtf8`.
-use Rattle.std.specs.Prelude.{◌≡◌, ℕ, ◌+◌, ◌-◌, ◌*◌, ◌<◌, ◌≤◌, Bool, true, false, not, ◌&&◌, List, [], ◌∷◌, ◌++◌, length, Option, Some, None, Result, Ok, Err, ◌≢◌, nat_le, nat_lt}
+use Rattle.std.specs.Prelude.{◌≡◌, ℕ, ◌<◌, Bool, true, false, not, ◌&&◌, List, [], ◌∷◌, ◌++◌, length, Option, Some, None, Result, Ok, Err, ◌≢◌, nat_le, nat_lt}
 use Rattle.std.proofs.Math.Utf8.{encode, encodes}
 use Rattle.text.specs.declared.points.Malformed.{Malformed}
+
+-- the bytes are the encoding of one code point
+abbrev pub OnePoint : List ℕ → Type 0
+OnePoint bs = (n : ℕ) × (n < 1114112) × (encode n ≡ bs)
 
 -- no code point's encoding stands at the start of the bytes
 abbrev pub NoPoint : List ℕ → Type 0
 NoPoint bs = (n : ℕ) (rest : List ℕ) → n < 1114112 → bs ≢ encode n ++ rest
-
--- one more byte, 80 to BF, puts six bits after `start`, or none stands there
-abbrev pub GoesOn : ℕ → List ℕ → Result ℕ Malformed → List ℕ → Type 0
-GoesOn start before (Ok n) after = (b : ℕ) × (128 ≤ b) × (b < 192) × (n ≡ start * 64 + (b - 128)) × (before ≡ b ∷ after)
-GoesOn start before (Err e) after = ((b : ℕ) (bs : List ℕ) → 128 ≤ b → b < 192 → before ≢ b ∷ bs) × (after ≡ before)
 
 -- one step through the code points of bytes: nothing is left, or the first one comes and `after` is left, or none begins
 abbrev pub Leads : List ℕ → Option (Result ℕ Malformed) → List ℕ → Type 0
