@@ -4,6 +4,7 @@ ghost use Rattle.cjs_law.specs.Laws.{ActsDecideTheLists};
 ghost use Rattle.cjs_law.specs.Walk.{WalkReachesWhatIsNotSkipped};
 ghost use Rattle.cjs_parse.specs.Outcome.{cjs_outcome};
 ghost use Rattle.cjs_parse.specs.State.{Ends, Sound, state};
+ghost use Rattle.findings.specs.Program.{program_tree};
 ghost use Rattle.findings.specs.Tables.{Analysed, nothing, room_of};
 ghost use Rattle.tree.specs.Subject.{tree_module, tree_rows, tree_text};
 
@@ -39,7 +40,7 @@ fn walk(tables: &mut FindingsTables, tree: &Tree) -> Result<(), FindingsFault>
 /// tables is zero.
 #[tactic(auto, using(crate::proofs::Laws::walk_laws))]
 pub fn analyze_cjs(program: ProgramRef, tables: &mut FindingsTables) -> Result<(), FindingsFault>
-    ensures analysed { Analysed (tree_module program.entry.tree.now) tables.old (cjs_outcome (room_of tables.old) (tree_text program.entry.tree.now) (tree_rows program.entry.tree.now)) result tables.new }
+    ensures analysed { Analysed (tree_module (program_tree program.entry)) tables.old (cjs_outcome (room_of tables.old) (tree_text (program_tree program.entry)) (tree_rows (program_tree program.entry))) result tables.new }
     ensures walk { WalkReachesWhatIsNotSkipped }
     ensures lists { ActsDecideTheLists }
 {

@@ -1,11 +1,12 @@
 //! The ES analysis: which names a module exports, and which modules it re-exports.
 ghost use Rattle.exports.specs.Beyond.{ItemsOfTheStandardExportTheirExportedNames};
 ghost use Rattle.exports.specs.Listing.{ListedWholeOrRefusedAtTheFirstChildWithoutRoom, es_outcome};
+ghost use Rattle.findings.specs.Program.{program_tree};
 ghost use Rattle.findings.specs.Tables.{Analysed, room_of};
 ghost use Rattle.tree.specs.Subject.{tree_module, tree_rows};
 
 use crate::items::list_items;
-use findings::parsed_source::{ProgramKind, ProgramRef};
+use findings::parsed_source::ProgramRef;
 use findings::{FindingsFault, FindingsTables};
 
 /// Lists the names that a module exports and the modules that it re-exports, in source order. A script lists nothing.
@@ -15,13 +16,13 @@ pub fn analyze_es_runtime_exports(
     program: ProgramRef,
     tables: &mut FindingsTables,
 ) -> Result<(), FindingsFault>
-    ensures analysed { Analysed (tree_module program.entry.tree.now) tables.old (es_outcome (room_of tables.old) (tree_rows program.entry.tree.now)) result tables.new }
+    ensures analysed { Analysed (tree_module (program_tree program.entry)) tables.old (es_outcome (room_of tables.old) (tree_rows (program_tree program.entry))) result tables.new }
     ensures whole { ListedWholeOrRefusedAtTheFirstChildWithoutRoom }
     ensures standard { ItemsOfTheStandardExportTheirExportedNames }
 {
     tables.clear();
-    match program.kind() {
-        ProgramKind::Module => {
+    match program {
+        ProgramRef::Module(_) => {
             let listed = list_items(program, &mut tables.exports, &mut tables.reexports);
             // No `inspect_err`: it leaves open what its closure leaves in the tables where nothing is refused. They are
             // cleared so in `cjs_parse` too, which is shorter than a shared function.
@@ -30,6 +31,6 @@ pub fn analyze_es_runtime_exports(
             }
             listed
         }
-        ProgramKind::Script => Ok(()),
+        ProgramRef::Script(_) => Ok(()),
     }
 }

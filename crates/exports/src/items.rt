@@ -4,6 +4,7 @@ ghost use Rattle.cjs_rules.specs.Nodes.{child, here, seen};
 ghost use Rattle.exports.specs.Append.{ItemListed, ItemsListed, Lists, Ready, optional};
 ghost use Rattle.exports.specs.Beyond.{declaration_names, default_names, item_names, specifier_names};
 ghost use Rattle.exports.specs.ExportedNames.{each, identified, if_any, named, star_of};
+ghost use Rattle.findings.specs.Program.{program_tree};
 ghost use Rattle.tree.specs.Forest.{children};
 ghost use Rattle.tree.specs.Subject.{tree_module, tree_rows};
 
@@ -114,7 +115,7 @@ pub(crate) fn list_items(
 ) -> Result<(), FindingsFault>
     requires exports { Ready exports.old }
     requires reexports { Ready reexports.old }
-    ensures { ItemsListed (tree_module program.entry.tree.now) (children (tree_rows program.entry.tree.now) 0) exports.old reexports.old result exports.new reexports.new }
+    ensures { ItemsListed (tree_module (program_tree program.entry)) (children (tree_rows (program_tree program.entry)) 0) exports.old reexports.old result exports.new reexports.new }
 {
     let module = program.tree().module();
     let mut names = PlaceList { table: exports };

@@ -3,6 +3,7 @@
 use Rattle.std.proofs.Common.{◌≡◌, Err, true, false, is_ok, sym, ◌∙◌, rules, tests}
 use Rattle.cjs_rules.specs.Nodes.{here}
 use Rattle.findings.specs.declared.refusal.FindingsFault.TheVariants.{Full}
+use Rattle.findings.specs.Program.{program_tree}
 use Rattle.tree.specs.Children.{left}
 use Rattle.tree.specs.Subject.{tree_module}
 use Rattle.exports.proofs.Progress.{at_first, at_next, no_room}
@@ -20,7 +21,7 @@ pub returns-in_err-map_err : goal.returns-in_err-map_err
 returns-in_err-map_err c =
     let err : is_ok c.list_item.result ≡ false = search rules in
     let is : c.from_residual.result ≡ Err (Full c.module-module.result c.row-row.result) = search (rules, tests) in
-    let from : c.module-module.result ≡ tree_module c.args.program.tree.now = search rules in
+    let from : c.module-module.result ≡ tree_module (program_tree c.args.program) = search rules in
     let p = c.loop-item.invariant.2 in
     let l = c.list_item.ensures in
     let names = c.in_err-map_err.exports-in-Break-1-own.given.1 (sym (l.same.0 ∙ p.exports.same)) in
