@@ -3,6 +3,7 @@ mod Look
 mod Moving
 mod Onward
 mod Right
+mod Settled
 mod Entered
 mod Named
 mod Walking

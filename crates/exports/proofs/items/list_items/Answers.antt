@@ -5,12 +5,15 @@ use Rattle.cjs_rules.specs.Nodes.{here}
 use Rattle.findings.specs.declared.refusal.FindingsFault.TheVariants.{Full}
 use Rattle.findings.specs.Program.{program_tree}
 use Rattle.tree.specs.Children.{left}
-use Rattle.tree.specs.Subject.{tree_module}
+use Rattle.tree.specs.Forest.{children}
+use Rattle.tree.specs.Subject.{tree_module, tree_rows}
 use Rattle.exports.proofs.Progress.{at_first, at_next, no_room}
 use Rattle.exports.proofs.items.list_items.Goals as goal
 
 pub loop-item-init : goal.loop-item-init
-loop-item-init c = (tt, tt, at_first _ _ _ _ (search rules))
+loop-item-init c =
+    let started : left c.into_iter-item-iterator.result ≡ left c.children-item-items.result = search rules in
+    (tt, tt, at_first _ _ _ _ (started ∙ c.children-item-items.ensures.left ∙ (λ i. children (tree_rows (c.root.ensures.tree i)) (c.root.ensures.row i))))
 
 pub loop-item-preserved : goal.loop-item-preserved
 loop-item-preserved c =
