@@ -5,6 +5,8 @@ pub mod Splits
 pub mod Listed
 pub mod Puts
 pub mod Stands
-pub mod Said
+mod Said
+mod Firsts
+pub mod Decided
 pub mod Walked
 pub mod Acts

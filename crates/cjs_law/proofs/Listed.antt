@@ -127,25 +127,25 @@ module _ {X : Type 0} (key : X → List ℕ) where
   has_first k [] h = absurd h.1
   has_first k (y ∷ ys) h = has_by k y ys (order (key y) k) refl (has_first k ys) h
 
-  abbrev FirstNew : X → X → List X → Type 0
+  abbrev pub FirstNew : X → X → List X → Type 0
   FirstNew x a xs = First key x xs ⊎ ((x ≡ a) × (Has key (key a) xs → ⊥))
 
   first_more : (x a y : X) (ys : List X) → (key y ≡ key x → ⊥) → FirstNew x a ys → FirstNew x a (y ∷ ys)
   first_more x a y ys n (inl f) = inl (inr (n, f))
   first_more x a y ys n (inr h) = inr (h.0, lacks_front (key a) y ys (λ q. n (q ∙ ap key (sym h.0))) h.1)
 
-  first_append : (x a : X) (xs : List X) → First key x (xs ++ a ∷ []) → FirstNew x a xs
+  pub first_append : (x a : X) (xs : List X) → First key x (xs ++ a ∷ []) → FirstNew x a xs
   first_append x a [] (inl e) = inr (e, λ h. absurd h.1)
   first_append x a [] (inr f) = absurd f.1
   first_append x a (y ∷ ys) (inl e) = inl (inl e)
   first_append x a (y ∷ ys) (inr f) = first_more x a y ys f.0 (first_append x a ys f.1)
 
-  first_stays : (x a : X) (xs : List X) → First key x xs → First key x (xs ++ a ∷ [])
+  pub first_stays : (x a : X) (xs : List X) → First key x xs → First key x (xs ++ a ∷ [])
   first_stays x a [] f = absurd f
   first_stays x a (y ∷ ys) (inl e) = inl e
   first_stays x a (y ∷ ys) (inr f) = inr (f.0, first_stays x a ys f.1)
 
-  first_comes : (a : X) (xs : List X) → (Has key (key a) xs → ⊥) → First key a (xs ++ a ∷ [])
+  pub first_comes : (a : X) (xs : List X) → (Has key (key a) xs → ⊥) → First key a (xs ++ a ∷ [])
   first_comes a [] n = inl refl
   first_comes a (y ∷ ys) n = inr ((λ q. n (y, inl refl, q)), first_comes a ys (λ h. n (h.0, inr h.1, h.2)))
 

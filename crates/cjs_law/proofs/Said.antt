@@ -5,12 +5,11 @@ use Rattle.findings.specs.Tables.{Found}
 use Rattle.cjs_law.specs.declared.event.Event.{Event}
 use Rattle.cjs_law.specs.declared.event.Event.TheVariants.{Bind, Export, Reexport, Replace, Unsafe}
 use Rattle.cjs_law.specs.Findings.{Finds, exported, exported_by, gathered, loosely, marked_unsafe, reexported, reexported_after, reexported_by, unsafe_by}
-use Rattle.cjs_law.specs.Laws.{ActsDecideTheLists, Adds, Exports, MarksUnsafe, Reexports}
+use Rattle.cjs_law.specs.Laws.{Adds, Exports, MarksUnsafe, Reexports}
 use Rattle.cjs_law.specs.Lists.{Has, In}
 use Rattle.cjs_law.specs.Walk.{Act}
 use Rattle.cjs_law.proofs.Listed.{has_listed, in_marked}
 use Rattle.cjs_law.proofs.Members.{in_either, in_left, in_right}
-use Rattle.cjs_law.proofs.Stands.{always_none, one_answer, outcome_from}
 
 -- some act has the event of this sort with the place
 abbrev SomeAct : (Place → Event) → List Act → Place → Type 0
@@ -75,17 +74,17 @@ module _ (acts : List Act) (p : Place) where
 
 -- the re-exports since the last clearing
 
-abbrev NoClearing : List Act → Type 0
+abbrev pub NoClearing : List Act → Type 0
 NoClearing acts = (b : Act) (q : Place) → In b acts → b.event ≡ Replace q → ⊥
 
 -- listed before and never cleared, or added since
 abbrev StaysOrAdded : List Place → List Act → Place → Type 0
 StaysOrAdded ps acts p = (In p ps × NoClearing acts) ⊎ Adds acts p
 
-later_adds : (a : Act) (acts : List Act) (p : Place) → Adds acts p → Adds (a ∷ acts) p
+abbrev pub later_adds : (a : Act) (acts : List Act) (p : Place) → Adds acts p → Adds (a ∷ acts) p
 later_adds a acts p d = record { before = a ∷ d.before; act = d.act; after = d.after; split = ap (λ l. a ∷ l) d.split; adds = d.adds; last = d.last }
 
-no_clearing_more : (a : Act) (acts : List Act) → ((q : Place) → a.event ≡ Replace q → ⊥) → NoClearing acts → NoClearing (a ∷ acts)
+pub no_clearing_more : (a : Act) (acts : List Act) → ((q : Place) → a.event ≡ Replace q → ⊥) → NoClearing acts → NoClearing (a ∷ acts)
 no_clearing_more a acts n f b q (inl s) e = n q (ap (λ z. z.event) (sym s) ∙ e)
 no_clearing_more a acts n f b q (inr i) e = f b q i e
 
@@ -93,7 +92,7 @@ keeps : (a : Act) (acts : List Act) (ps : List Place) (p : Place) → ((q : Plac
 keeps a acts ps p n (inl s) = inl (s.0, no_clearing_more a acts n s.1)
 keeps a acts ps p n (inr d) = inr (later_adds a acts p d)
 
-adds_here : (a : Act) (acts : List Act) (p : Place) → (a.event ≡ Reexport p) ⊎ (a.event ≡ Replace p) → NoClearing acts → Adds (a ∷ acts) p
+abbrev pub adds_here : (a : Act) (acts : List Act) (p : Place) → (a.event ≡ Reexport p) ⊎ (a.event ≡ Replace p) → NoClearing acts → Adds (a ∷ acts) p
 adds_here a acts p e n = record { before = []; act = a; after = acts; split = refl; adds = e; last = n }
 
 reexported_at : (e : Event) (a : Act) (acts : List Act) (ps : List Place) (p : Place) → a.event ≡ e → StaysOrAdded (reexported_by e ps) acts p → StaysOrAdded ps (a ∷ acts) p
@@ -139,34 +138,36 @@ since_clearing acts p i = ⊎_elim (λ s. absurd s.0) (λ d. d) (reexported_said
 -- ---- the laws
 
 module _ (T : List ℕ) (acts : List Act) (k : List ℕ) where
-  unsafe_in : In k (map (loosely T) (marked_unsafe acts)) → MarksUnsafe T acts k
+  pub unsafe_in : In k (map (loosely T) (marked_unsafe acts)) → MarksUnsafe T acts k
   unsafe_in i = let h = (in_marked (loosely T) k (marked_unsafe acts)).0 i in let s = unsafe_said acts h.0 h.1 in (s.0, h.0, s.1, s.2, h.2)
 
-  in_unsafe : MarksUnsafe T acts k → In k (map (loosely T) (marked_unsafe acts))
+  pub in_unsafe : MarksUnsafe T acts k → In k (map (loosely T) (marked_unsafe acts))
   in_unsafe m = (in_marked (loosely T) k (marked_unsafe acts)).1 (m.1, said_unsafe acts m.1 m.0 m.2 m.3, m.4)
 
-  said_exports : (f : Found) → Finds T acts f → Has (loosely T) k f.exports ↔ (Exports T acts k × (MarksUnsafe T acts k → ⊥))
+  pub said_exports : (f : Found) → Finds T acts f → Has (loosely T) k f.exports ↔ (Exports T acts k × (MarksUnsafe T acts k → ⊥))
   said_exports f h =
       let w = has_listed (loosely T) (exported acts) (map (loosely T) (marked_unsafe acts)) f.exports h.exports k in (
         (λ g. let x = w.0 g in let s = exported_said acts x.0.0 x.0.1 in ((s.0, x.0.0, s.1, s.2, x.0.2), λ m. x.1 (in_unsafe m))),
         (λ x. w.1 ((x.0.1, said_exported acts x.0.1 x.0.0 x.0.2 x.0.3, x.0.4), λ i. x.1 (unsafe_in i))),
       )
 
-  said_reexports : (f : Found) → Finds T acts f → Has (loosely T) k f.reexports ↔ (Reexports T acts k × (MarksUnsafe T acts k → ⊥))
+  pub reexports_in : Has (loosely T) k (reexported acts) → Reexports T acts k
+  reexports_in h = (h.0, since_clearing acts h.0 h.1, h.2)
+
+  pub in_reexports : Reexports T acts k → Has (loosely T) k (reexported acts)
+  in_reexports r =
+      let d = r.1 in
+      (r.0, subst (λ l. In r.0 (reexported l)) (sym d.split) (said_reexported d.before d.act d.after [] r.0 d.adds d.last), r.2)
+
+  pub said_reexports : (f : Found) → Finds T acts f → Has (loosely T) k f.reexports ↔ (Reexports T acts k × (MarksUnsafe T acts k → ⊥))
   said_reexports f h =
       let w = has_listed (loosely T) (reexported acts) (map (loosely T) (marked_unsafe acts)) f.reexports h.reexports k in (
-        (λ g. let x = w.0 g in ((x.0.0, since_clearing acts x.0.0 x.0.1, x.0.2), λ m. x.1 (in_unsafe m))),
-        (λ x.
-            let d = x.0.1 in
-            let i : In x.0.0 (reexported acts) = subst (λ l. In x.0.0 (reexported l)) (sym d.split) (said_reexported d.before d.act d.after [] x.0.0 d.adds d.last) in
-            w.1 ((x.0.0, i, x.0.2), λ u. x.1 (unsafe_in u))),
+        (λ g. let x = w.0 g in (reexports_in x.0, λ m. x.1 (in_unsafe m))),
+        (λ x. w.1 (in_reexports x.0, λ u. x.1 (unsafe_in u))),
       )
 
-pub acts_decide_the_lists : ActsDecideTheLists
-acts_decide_the_lists =
-    record {
-      outcome = λ T room acts. outcome_from T room [] acts (always_none T room);
-      one = one_answer;
-      exported = λ T acts f h k. said_exports T acts k f h;
-      reexported = λ T acts f h k. said_reexports T acts k f h;
-    }
+  pub said_unsafes : (f : Found) → Finds T acts f → Has (loosely T) k f.unsafes ↔ MarksUnsafe T acts k
+  said_unsafes f h =
+      let w = has_listed (loosely T) (marked_unsafe acts) [] f.unsafes h.unsafes k in
+      let m = in_marked (loosely T) k (marked_unsafe acts) in
+      ((λ g. unsafe_in (m.1 (w.0 g).0)), (λ x. w.1 (m.0 (in_unsafe x), λ b. b)))

@@ -1,4 +1,4 @@
-use Rattle.cjs_law.proofs.Said.{acts_decide_the_lists}
+use Rattle.cjs_law.proofs.Decided.{acts_decide_the_lists}
 use Rattle.cjs_law.proofs.Walked.{walk_reaches_what_is_not_skipped}
 use Rattle.cjs_law.proofs.laws.Goals as goal
 
