@@ -136,32 +136,35 @@ module _ (T : List ℕ) where
 
 module _ (T : List ℕ) where
   -- none of these acts binds the name
-  abbrev NoneBinds : List Act → Binding → Type 0
-  NoneBinds acts b = (c : Binding) → Binds acts c → by_name T c ≢ by_name T b
+  abbrev pub NoneBinds : List Act → List ℕ → Type 0
+  NoneBinds acts name = (c : Binding) → Binds acts c → by_name T c ≢ name
 
-  none_more : (a : Act) (acts : List Act) (b : Binding) → ((c : Binding) → a.event ≡ Bind c.name c.value → by_name T c ≢ by_name T b) → NoneBinds acts b → NoneBinds (a ∷ acts) b
-  none_more a acts b f n c (x, (inl q), e) = f c (ap (λ z. z.event) (sym q) ∙ e)
-  none_more a acts b f n c (x, (inr i), e) = n c (x, i, e)
+  pub none_more : (a : Act) (acts : List Act) (name : List ℕ) → ((c : Binding) → a.event ≡ Bind c.name c.value → by_name T c ≢ name) → NoneBinds acts name → NoneBinds (a ∷ acts) name
+  none_more a acts name f n c (x, (inl q), e) = f c (ap (λ z. z.event) (sym q) ∙ e)
+  none_more a acts name f n c (x, (inr i), e) = n c (x, i, e)
 
   -- the first of its name before these acts, which do not bind it, or the last that they bind
   abbrev LastSince : List Binding → List Act → Binding → Type 0
-  LastSince bs acts b = (First (by_name T) b bs × NoneBinds acts b) ⊎ BindsLast T acts b
+  LastSince bs acts b = (First (by_name T) b bs × NoneBinds acts (by_name T b)) ⊎ BindsLast T acts b
 
-  bind_name : (k v : Place) (c : Binding) → Bind k v ≡ Bind c.name c.value → by_name T (record { name = k; value = v }) ≡ by_name T c
+  pub bind_name : (k v : Place) (c : Binding) → Bind k v ≡ Bind c.name c.value → by_name T (record { name = k; value = v }) ≡ by_name T c
   bind_name k v c e = ap (λ z. by_name T (record { name = listed z; value = v })) e
 
-  here_bound : (e : Event) (a : Act) (acts : List Act) (bs : List Binding) (b : Binding) → a.event ≡ e → First (by_name T) b (bound_by e bs) → NoneBinds acts b → LastSince bs (a ∷ acts) b
+  here_bound : (e : Event) (a : Act) (acts : List Act) (bs : List Binding) (b : Binding) → a.event ≡ e → First (by_name T) b (bound_by e bs) → NoneBinds acts (by_name T b) → LastSince bs (a ∷ acts) b
   here_bound (Bind k v) a acts bs b e (inl q) n =
       inr (record { before = []; act = a; after = acts; split = refl; binds = e ∙ ap (λ (z : Binding). Bind z.name z.value) (sym q); last = n })
-  here_bound (Bind k v) a acts bs b e (inr f) n = inl (f.1, none_more a acts b (λ c h s. f.0 (bind_name k v c (sym e ∙ h) ∙ s)) n)
-  here_bound (Export x) a acts bs b e f n = inl (f, none_more a acts b (λ c h. let z : ◌≡◌ {A = ℕ} 0 1 = cc in omega arith) n)
-  here_bound (Unsafe x) a acts bs b e f n = inl (f, none_more a acts b (λ c h. let z : ◌≡◌ {A = ℕ} 0 1 = cc in omega arith) n)
-  here_bound (Reexport x) a acts bs b e f n = inl (f, none_more a acts b (λ c h. let z : ◌≡◌ {A = ℕ} 0 1 = cc in omega arith) n)
-  here_bound (Replace x) a acts bs b e f n = inl (f, none_more a acts b (λ c h. let z : ◌≡◌ {A = ℕ} 0 1 = cc in omega arith) n)
+  here_bound (Bind k v) a acts bs b e (inr f) n = inl (f.1, none_more a acts (by_name T b) (λ c h s. f.0 (bind_name k v c (sym e ∙ h) ∙ s)) n)
+  here_bound (Export x) a acts bs b e f n = inl (f, none_more a acts (by_name T b) (λ c h. let z : ◌≡◌ {A = ℕ} 0 1 = cc in omega arith) n)
+  here_bound (Unsafe x) a acts bs b e f n = inl (f, none_more a acts (by_name T b) (λ c h. let z : ◌≡◌ {A = ℕ} 0 1 = cc in omega arith) n)
+  here_bound (Reexport x) a acts bs b e f n = inl (f, none_more a acts (by_name T b) (λ c h. let z : ◌≡◌ {A = ℕ} 0 1 = cc in omega arith) n)
+  here_bound (Replace x) a acts bs b e f n = inl (f, none_more a acts (by_name T b) (λ c h. let z : ◌≡◌ {A = ℕ} 0 1 = cc in omega arith) n)
+
+  abbrev pub later_bound : (a : Act) (acts : List Act) (b : Binding) → BindsLast T acts b → BindsLast T (a ∷ acts) b
+  later_bound a acts b d = record { before = a ∷ d.before; act = d.act; after = d.after; split = ap (λ l. a ∷ l) d.split; binds = d.binds; last = d.last }
 
   at_bound : (a : Act) (acts : List Act) (bs : List Binding) (b : Binding) → LastSince (bound_by a.event bs) acts b → LastSince bs (a ∷ acts) b
   at_bound a acts bs b (inl s) = here_bound a.event a acts bs b refl s.0 s.1
-  at_bound a acts bs b (inr d) = inr (record { before = a ∷ d.before; act = d.act; after = d.after; split = ap (λ l. a ∷ l) d.split; binds = d.binds; last = d.last })
+  at_bound a acts bs b (inr d) = inr (later_bound a acts b d)
 
   last_since : (acts : List Act) (bs : List Binding) (b : Binding) → First (by_name T) b (bindings_after bs acts) → LastSince bs acts b
   last_since [] bs b f = inl (f, λ c h. absurd h.1)
@@ -174,11 +177,11 @@ module _ (T : List ℕ) where
   stays_bound_by (Reexport x) bs b n f = f
   stays_bound_by (Replace x) bs b n f = f
 
-  stays_bound : (acts : List Act) (bs : List Binding) (b : Binding) → First (by_name T) b bs → NoneBinds acts b → First (by_name T) b (bindings_after bs acts)
+  stays_bound : (acts : List Act) (bs : List Binding) (b : Binding) → First (by_name T) b bs → NoneBinds acts (by_name T b) → First (by_name T) b (bindings_after bs acts)
   stays_bound [] bs b f n = f
   stays_bound (a ∷ acts) bs b f n = stays_bound acts (bound_by a.event bs) b (stays_bound_by a.event bs b (λ c e. n c (a, inl refl, e)) f) (λ c h. n c (h.0, inr h.1, h.2))
 
-  last_first : (before : List Act) (a : Act) (after : List Act) (bs : List Binding) (b : Binding) → a.event ≡ Bind b.name b.value → NoneBinds after b → First (by_name T) b (bindings_after bs (before ++ a ∷ after))
+  last_first : (before : List Act) (a : Act) (after : List Act) (bs : List Binding) (b : Binding) → a.event ≡ Bind b.name b.value → NoneBinds after (by_name T b) → First (by_name T) b (bindings_after bs (before ++ a ∷ after))
   last_first [] a after bs b e n = stays_bound after (bound_by a.event bs) b (subst (λ x. First (by_name T) b (bound_by x bs)) (sym e) (inl refl)) n
   last_first (d ∷ before) a after bs b e n = last_first before a after (bound_by d.event bs) b e n
 

@@ -10,3 +10,7 @@ mod Firsts
 pub mod Decided
 pub mod Walked
 pub mod Acts
+mod Bound
+pub mod Onward
+mod WalkedRows
+pub mod RowActs

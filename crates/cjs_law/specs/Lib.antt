@@ -3,3 +3,4 @@ pub mod Walk
 pub mod Lists
 pub mod Findings
 pub mod Laws
+pub mod Rows

@@ -26,6 +26,10 @@ abbrev pub walked : Forest → List Visit
 walked nil = []
 walked (node j r ks rest) = record { number = j; row = r; kids = ks } ∷ (cond (skips r) [] (walked ks) ++ walked rest)
 
+-- the walk over rows
+abbrev pub walk : List Row → List Visit
+walk rs = walked (forest rs 0 (length rs))
+
 -- an event, and the row at which the walk acts
 pub record Act : Type 0 where
   pub row : ℕ
@@ -63,7 +67,7 @@ acts_from T done (v ∷ vs) =
 
 -- the acts of the whole walk
 abbrev pub acts_of : List ℕ → List Row → List Act
-acts_of T rs = acts_from T [] (walked (forest rs 0 (length rs)))
+acts_of T rs = acts_from T [] (walk rs)
 
 -- a row of the forest under no row that is skipped
 abbrev pub Reached : Visit → Forest → Type 0

@@ -3,6 +3,7 @@
 #![tactic(auto)]
 
 ghost use Rattle.cjs_law.specs.Laws.{ActsDecideTheLists};
+ghost use Rattle.cjs_law.specs.Rows.{WalkedRowsDecideTheActs};
 ghost use Rattle.cjs_law.specs.Walk.{WalkReachesWhatIsNotSkipped};
 
 mod event;
@@ -12,5 +13,6 @@ pub use event::Event;
 /// The laws of the walk and of its acts, which the analysis promises as well.
 pub fn laws()
     ensures walk { WalkReachesWhatIsNotSkipped }
+    ensures acts { WalkedRowsDecideTheActs }
     ensures lists { ActsDecideTheLists }
 {}

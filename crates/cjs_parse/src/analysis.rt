@@ -1,6 +1,7 @@
 //! The walk over a tree, and the analysis.
 ghost use Rattle.std.specs.Prelude.{◌≡◌};
 ghost use Rattle.cjs_law.specs.Laws.{ActsDecideTheLists};
+ghost use Rattle.cjs_law.specs.Rows.{WalkedRowsDecideTheActs};
 ghost use Rattle.cjs_law.specs.Walk.{WalkReachesWhatIsNotSkipped};
 ghost use Rattle.cjs_parse.specs.Outcome.{cjs_outcome};
 ghost use Rattle.cjs_parse.specs.State.{Ends, Sound, state};
@@ -42,6 +43,7 @@ fn walk(tables: &mut FindingsTables, tree: &Tree) -> Result<(), FindingsFault>
 pub fn analyze_cjs(program: ProgramRef, tables: &mut FindingsTables) -> Result<(), FindingsFault>
     ensures analysed { Analysed (tree_module (program_tree program.entry)) tables.old (cjs_outcome (room_of tables.old) (tree_text (program_tree program.entry)) (tree_rows (program_tree program.entry))) result tables.new }
     ensures walk { WalkReachesWhatIsNotSkipped }
+    ensures acts { WalkedRowsDecideTheActs }
     ensures lists { ActsDecideTheLists }
 {
     let tree = program.tree();
