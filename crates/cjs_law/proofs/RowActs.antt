@@ -1,12 +1,15 @@
 -- The rows of a walk decide its acts.
-use Rattle.std.proofs.Common.{◌≡◌, ℕ, ◌<◌, ◌≤◌, List, [], ◌∷◌, ◌++◌, sym, refl, ap, ◌∙◌, subst, inl, inr, ⊎_elim, arith, append_assoc}
+use Rattle.std.proofs.Common.{◌≡◌, ℕ, ◌<◌, ◌≤◌, ◌↔◌, Result, List, [], ◌∷◌, ◌++◌, sym, refl, ap, ◌∙◌, subst, inl, inr, ⊎_elim, arith, append_assoc}
 use Rattle.tree.specs.declared.row.Row.{Row}
+use Rattle.findings.specs.Tables.{Found, Room}
 use Rattle.cjs_law.specs.declared.event.Event.{Event}
 use Rattle.cjs_law.specs.Events.{events}
+use Rattle.cjs_law.specs.Findings.{Outcome, outcome}
 use Rattle.cjs_law.specs.Lists.{In}
 use Rattle.cjs_law.specs.Rows.{ActsAt, ActsOfRows, LawfulEnds, UnderNoSkippedRow, WalkedRowsDecideTheActs, visit_at}
 use Rattle.cjs_law.specs.Walk.{Act, Visit, acts_at, acts_from, acts_of, bound, walk}
 use Rattle.cjs_law.proofs.Bound.{bound_to}
+use Rattle.cjs_law.proofs.Decided.{acts_decide_the_lists}
 use Rattle.cjs_law.proofs.Members.{in_either, in_right}
 use Rattle.cjs_law.proofs.Splits.{back, front}
 use Rattle.cjs_law.proofs.WalkedRows.{Rising, walk_comes, walk_comes_to, walk_rises, walk_rising, walked_rows_are_those_under_no_skipped_row}
@@ -129,10 +132,18 @@ module _ (T : List ℕ) (rs : List Row) (ends : LawfulEnds rs) where
       (λ a i. (visit_at rs a.row, walk_comes_to rs ends (visit_at rs a.row) (h.only a i) refl, refl))
       (λ v i. let w = walk_comes rs ends v i in subst (ActsAt T acts) (sym w.1) (h.at v.number w.0))
 
+  comes_to : (room : Room) (r : Result Found ℕ) → (outcome T room (acts_of T rs) ≡ r) ↔ ((acts : List Act) × ActsOfRows T rs acts × Outcome T room acts r)
+  comes_to room r =
+      let said = acts_decide_the_lists.outcome T room (acts_of T rs) in (
+        (λ e. (acts_of T rs, made, subst (Outcome T room (acts_of T rs)) e said)),
+        (λ (acts, h, o). acts_decide_the_lists.one T room (acts_of T rs) (outcome T room (acts_of T rs)) r said (subst (λ l. Outcome T room l r) (so_made acts h) o)),
+      )
+
 pub walked_rows_decide_the_acts : WalkedRowsDecideTheActs
 walked_rows_decide_the_acts = record {
   rows = walked_rows_are_those_under_no_skipped_row;
   rises = walk_rises;
   acts = λ T rs ends acts. (so_made T rs ends acts, λ e. subst (ActsOfRows T rs) (sym e) (made T rs ends));
   bound = bound_to;
+  outcome = λ T room rs ends r. comes_to T rs ends room r;
 }

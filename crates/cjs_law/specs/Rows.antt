@@ -1,11 +1,12 @@
 -- The walk over rows with lawful ends, and the acts at its rows, in the subject's own words.
-use Rattle.std.specs.Prelude.{◌≡◌, ℕ, ◌<◌, false, ◌↔◌, List, ◌∷◌, ◌++◌, length, Some}
+use Rattle.std.specs.Prelude.{◌≡◌, ℕ, ◌<◌, false, ◌↔◌, List, ◌∷◌, ◌++◌, length, Some, Result}
 use Rattle.table.specs.declared.binding.Binding.{Binding}
 use Rattle.text.specs.declared.place.Place.{Place}
 use Rattle.tree.specs.declared.row.Row.{Row}
 use Rattle.tree.specs.Forest.{Encloses, LawfulEnd, children, row_at}
+use Rattle.findings.specs.Tables.{Found, Room}
 use Rattle.cjs_law.specs.Events.{events}
-use Rattle.cjs_law.specs.Findings.{by_name}
+use Rattle.cjs_law.specs.Findings.{Outcome, by_name, outcome}
 use Rattle.cjs_law.specs.Laws.{BindsLast}
 use Rattle.cjs_law.specs.Lists.{In}
 use Rattle.cjs_law.specs.Walk.{Act, Visit, acts_at, acts_of, bound, skips, walk}
@@ -27,7 +28,7 @@ abbrev pub WalkedRowsAreThoseUnderNoSkippedRow : Type 0
 WalkedRowsAreThoseUnderNoSkippedRow =
     (rs : List Row) → LawfulEnds rs → (v : Visit) → In v (walk rs) ↔ (UnderNoSkippedRow rs v.number × (v ≡ visit_at rs v.number))
 
--- it comes to a row of a greater number later
+-- a row that it comes to later has a greater number
 abbrev pub WalkRises : Type 0
 WalkRises =
     (rs : List Row) → LawfulEnds rs → (before after : List Visit) (v w : Visit) →
@@ -41,20 +42,24 @@ pub record ActsAt (T : List ℕ) (acts : List Act) (v : Visit) : Type 0 where
   pub earlier : (a : Act) → In a before → a.row < v.number
   pub later : (a : Act) → In a after → v.number < a.row
 
--- there are acts at rows under no skipped row alone
+-- these acts are at each row under no skipped row what is asked for there, and at no other row
 pub record ActsOfRows (T : List ℕ) (rs : List Row) (acts : List Act) : Type 0 where
   pub at : (j : ℕ) → UnderNoSkippedRow rs j → ActsAt T acts (visit_at rs j)
   pub only : (a : Act) → In a acts → UnderNoSkippedRow rs a.row
 
--- the last act that binds the name binds it to v
+-- the last of these acts that binds the name binds it to v
 abbrev pub BoundTo : List ℕ → List Act → List ℕ → Place → Type 0
 BoundTo T acts name v = (b : Binding) × BindsLast T acts b × (by_name T b ≡ name) × (b.value ≡ v)
 
 pub record WalkedRowsDecideTheActs : Type 0 where
-  -- the rows that are walked
+  -- which rows are walked, and in which order
   pub rows : WalkedRowsAreThoseUnderNoSkippedRow
   pub rises : WalkRises
-  -- the acts of the walk are these, and no others are
+  -- the acts of the walk are those of its rows, and no others are
   pub acts : (T : List ℕ) (rs : List Row) → LawfulEnds rs → (acts : List Act) → ActsOfRows T rs acts ↔ (acts ≡ acts_of T rs)
-  -- what a name is bound to
+  -- a name is bound by the last act that binds it
   pub bound : (T : List ℕ) (acts : List Act) (name : List ℕ) (v : Place) → (bound T acts name ≡ Some v) ↔ BoundTo T acts name v
+  -- so an analysis comes to r exactly where acts of the rows come to it, in words
+  pub outcome :
+      (T : List ℕ) (room : Room) (rs : List Row) → LawfulEnds rs → (r : Result Found ℕ) →
+      (outcome T room (acts_of T rs) ≡ r) ↔ ((acts : List Act) × ActsOfRows T rs acts × Outcome T room acts r)

@@ -1,13 +1,12 @@
--- The walk from one row to the next.
-use Rattle.std.proofs.Common.{◌≡◌, ℕ, ◌+◌, ◌<◌, ◌≤◌, Bool, true, false, cond, List, [], ◌∷◌, ◌++◌, length, Ok, sym, refl, ap, ◌∙◌, subst, append_assoc}
+-- What the tables hold as the walk goes on from one row to the next.
+use Rattle.std.proofs.Common.{◌≡◌, ℕ, ◌<◌, ◌≤◌, List, ◌++◌, length, Ok, sym, ap, ◌∙◌, subst}
 use Rattle.tree.specs.declared.row.Row.{Row}
 use Rattle.tree.specs.declared.node.Node.{Node as TreeNode}
 use Rattle.tree.specs.declared.tree.Tree.{Tree}
 use Rattle.tree.specs.Children.{row_of}
 use Rattle.tree.specs.Subject.{tree_rows, tree_text}
-use Rattle.tree.specs.Forest.{Forest, Nested, children, end_at, forest, nil, node, row_at}
-use Rattle.tree.proofs.Grown.{forest_none}
-use Rattle.tree.proofs.Split.{append, forest_at, forest_on, nested_of}
+use Rattle.tree.specs.Forest.{Nested, children, forest, row_at}
+use Rattle.tree.proofs.Split.{nested_of}
 use Rattle.findings.specs.Tables.{Found, room_of}
 use Rattle.findings.specs.declared.refusal.FindingsFault.{FindingsFault}
 use Rattle.findings.specs.declared.refusal.FindingsFault.TheVariants.{Full}
@@ -15,7 +14,8 @@ use Rattle.findings.specs.declared.tables.FindingsTables.{FindingsTables}
 use Rattle.cjs_law.specs.declared.event.Event.{Event}
 use Rattle.cjs_law.specs.Events.{events}
 use Rattle.cjs_law.specs.Findings.{held, outcome, outcome_after, safe}
-use Rattle.cjs_law.specs.Walk.{Act, Visit, acts_at, acts_from, acts_of, bound, skips, walked}
+use Rattle.cjs_law.specs.Walk.{Act, acts_at, acts_from, acts_of, bound, walked}
+use Rattle.cjs_law.proofs.Onward.{left_none, left_on}
 use Rattle.cjs_rules.specs.Nodes.{section}
 use Rattle.cjs_parse.specs.declared.visited.Visited.{Visited}
 use Rattle.cjs_parse.specs.declared.walk.Walk.{Walk}
@@ -26,30 +26,6 @@ use Rattle.cjs_parse.proofs.Entered.{Told, told}
 use Rattle.cjs_parse.proofs.Moving.{Halted, Took}
 use Rattle.cjs_parse.proofs.Named.{bound_held}
 use Rattle.cjs_parse.proofs.Steps.{kept_on}
-
-walked_append : (f g : Forest) → walked (append f g) ≡ walked f ++ walked g
-walked_append nil g = refl
-walked_append (node j r ks rest) g =
-    ap (λ l. record { number = j; row = r; kids = ks } ∷ (cond (skips r) [] (walked ks) ++ l)) (walked_append rest g)
-    ∙ ap (λ l. record { number = j; row = r; kids = ks } ∷ l) (sym (append_assoc (cond (skips r) [] (walked ks)) (walked rest) (walked g)))
-
-module _ (rs : List Row) (law : Nested rs) where
-  abbrev visit_at : ℕ → Visit
-  visit_at j = record { number = j; row = row_at rs j; kids = children rs j }
-
-  abbrev left : ℕ → List Visit
-  left j = walked (forest rs j (length rs))
-
-  left_by : (j : ℕ) → j < length rs → (t : Bool) → skips (row_at rs j) ≡ t → cond t [] (walked (children rs j)) ++ left (end_at rs j) ≡ left (cond t (end_at rs j) (j + 1))
-  left_by j h true e = refl
-  left_by j h false e = sym (walked_append (children rs j) (forest rs (end_at rs j) (length rs))) ∙ ap walked (sym (forest_on rs law j h))
-
-  -- from row j on, the walk comes to row j, and then to what follows it
-  pub left_on : (j : ℕ) → j < length rs → left j ≡ visit_at j ∷ left (after rs j)
-  left_on j h = ap walked (forest_at rs law j h) ∙ ap (λ l. visit_at j ∷ l) (left_by j h (skips (row_at rs j)) refl)
-
-  pub left_none : (j : ℕ) → length rs ≤ j → left j ≡ []
-  left_none j h = ap walked (forest_none rs law j (length rs) h)
 
 -- the tables hold what was done so far, and the outcome of the whole walk is that of what is left of it
 pub record Going (T : List ℕ) (rs : List Row) (v w : FindingsTables) (j : ℕ) : Type 0 where
