@@ -7,6 +7,5 @@ mod Settled
 mod Entered
 mod Named
 mod Walking
-mod RequireArg
 mod Firsts
 mod Laws

@@ -11,7 +11,7 @@ ghost use Rattle.tree.specs.Subject.{tree_text};
 
 use crate::bindings::Bindings;
 use cjs_rules::exports_object::is_exports_expr;
-use cjs_rules::require::require_value;
+use cjs_rules::require::get_expr_require_value;
 use cjs_rules::words::is_ident;
 use kinds::kind::Kind;
 use text::Place;
@@ -72,7 +72,7 @@ fn is_for_exports(mut others: Children) -> bool
 fn get_required_or_bound(bindings: Bindings, expr: Node) -> Option<Place>
     ensures { result ≡ required_or_bound (section expr.entry) (bound_in bindings.entry) (here expr.entry) }
 {
-    match require_value(expr) {
+    match get_expr_require_value(expr) {
         Some(value) => Some(value),
         None if expr.is(Kind::Ident) => bindings.bound(expr),
         None => None,

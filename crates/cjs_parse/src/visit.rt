@@ -16,7 +16,7 @@ use cjs_rules::properties::{
     get_object_define_get_prop, get_prop_name, is_supported_object_prop,
     is_valid_object_define_obj_lit,
 };
-use cjs_rules::require::require_value;
+use cjs_rules::require::get_expr_require_value;
 use cjs_rules::returned::get_prop_return_expr;
 use kinds::kind::Kind;
 use text::Place;
@@ -31,7 +31,7 @@ pub(crate) fn visit_declarator(declarator: Node) -> Option<Event>
     if !id.is(Kind::Ident) {
         return None;
     }
-    let value = require_value(init)?;
+    let value = get_expr_require_value(init)?;
     let name = id.place();
     Some(Event::Bind { name, value })
 }
@@ -101,7 +101,7 @@ pub(crate) fn visit_prop(property: Node) -> Option<Event>
 {
     if property.is(Kind::Spread) {
         let spread = property.children().next()?;
-        let value = require_value(spread)?;
+        let value = get_expr_require_value(spread)?;
         return Some(Event::Reexport(value));
     }
     let (PropName::Ident(name) | PropName::Str(name)) = get_prop_name(property)?;
@@ -113,7 +113,7 @@ pub(crate) fn visit_prop(property: Node) -> Option<Event>
 pub(crate) fn visit_exports_call(call: Node) -> Option<Event>
     ensures { result ≡ visit_exports_call (section call.entry) (here call.entry) }
 {
-    let value = require_value(call)?;
+    let value = get_expr_require_value(call)?;
     Some(Event::Replace(value))
 }
 

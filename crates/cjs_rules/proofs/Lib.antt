@@ -1,3 +1,4 @@
 pub mod Ahead
 pub mod FirstTwo
 pub mod Listed
+mod Required

@@ -1,5 +1,6 @@
--- The CommonJS rules, one for each helper of the ported source, under its name. T is the text section.
-use Rattle.std.specs.Prelude.{ℕ, Bool, true, false, cond, not, ◌&&◌, ◌||◌, List, [], ◌∷◌, Some, None, codes, Option, ◌==◌, nat_eq}
+-- The CommonJS rules, under the names of the ported source's helpers. docs/DECISIONS.md lists the helpers that have no rule here.
+-- T is the text section.
+use Rattle.std.specs.Prelude.{ℕ, Bool, true, false, cond, not, ◌&&◌, ◌||◌, List, [], ◌∷◌, Some, None, codes, Option, ◌==◌}
 use Rattle.std.specs.Str.{bytes_eq}
 use Rattle.kinds.specs.Kinds.{arrow, block, call, computed, fn_expr, getter, ident, key_value, member, method, num, object, other_lit, paren, seq, setter, shorthand, spread, str, «return»}
 use Rattle.kinds.specs.Shape.{among}
@@ -7,7 +8,7 @@ use Rattle.text.specs.declared.place.Place.{Place}
 use Rattle.tree.specs.declared.row.Row.{Row}
 use Rattle.tree.specs.Forest.{Forest, nil, node}
 use Rattle.cjs_rules.specs.Chain.{◌>>=◌, ◌>>◌, ◌or_else◌, so}
-use Rattle.cjs_rules.specs.Nodes.{Node, any_of_kind, child, final, has_count, is, place, read, text_of}
+use Rattle.cjs_rules.specs.Nodes.{Node, any_of_kind, child, final, has_count, is, past, place, read, text_of}
 use Rattle.cjs_rules.specs.Names.{Name, named, nameless, quoted}
 use Rattle.cjs_rules.specs.Words.{is_ident, is_plain_str}
 
@@ -30,24 +31,28 @@ is_module_exports_member T m = so (do
 abbrev pub is_exports_expr : List ℕ → Node → Bool
 is_exports_expr T n = is_ident T (codes "exports") n
 
+abbrev pub is_module_exports_expr : List ℕ → Node → Bool
+is_module_exports_expr T n = is member n && is_module_exports_member T n
+
 abbrev pub is_module_exports_or_exports : List ℕ → Node → Bool
-is_module_exports_or_exports T n = is member n && is_module_exports_member T n || is_exports_expr T n
+is_module_exports_or_exports T n = is_module_exports_expr T n || is_exports_expr T n
 
 -- require values; a Spread is no Str and no Call, so none is read through it
 
-abbrev pub require_value : List ℕ → Row → Forest → Option Place
-require_value T r nil = None
-require_value T r (node j c ks nil) = None
-require_value T r (node j c ks (node i a ls rest)) =
+-- of a call's children, the callee and the arguments
+abbrev pub get_call_expr_require_value : List ℕ → Forest → Option Place
+get_call_expr_require_value T nil = None
+get_call_expr_require_value T (node j c ks nil) = None
+get_call_expr_require_value T (node j c ks (node i a ls rest)) =
     let callee : Node = record { row = c; kids = ks } in
     let arg : Node = record { row = a; kids = ls } in
-    let inner : Option Place = require_value T a ls in
-    nat_eq r.kind call >> cond (is_ident T (codes "require") callee)
+    let inner : Option Place = get_call_expr_require_value T ls in
+    cond (is_ident T (codes "require") callee)
     (is_plain_str T arg >> Some (place arg))
-    (is_ident T (codes "_interopRequireWildcard") callee >> inner)
+    (is_ident T (codes "_interopRequireWildcard") callee >> is call arg >> inner)
 
 abbrev pub get_expr_require_value : List ℕ → Node → Option Place
-get_expr_require_value T n = require_value T n.row n.kids
+get_expr_require_value T n = is call n >> get_call_expr_require_value T n.kids
 
 -- `o[key]` with o bound
 abbrev pub get_member_require_value : List ℕ → (List ℕ → Option Place) → List ℕ → Node → Option Place
@@ -116,8 +121,8 @@ abbrev pub get_export_require_arg : List ℕ → (List ℕ → Option Place) →
 get_export_require_arg T bound args = do
   not (any_of_kind spread args)
   a ← child 0 args
-  has_count 1 args || has_count 2 args && so (child 1 args >>= (λ b. Some (is_exports_expr T b)))
-  get_expr_require_value T a or_else (is ident a >> bound (text_of T a))
+  none_or_exports T (past args)
+  required_or_bound T bound a
 
 -- properties
 
@@ -168,11 +173,12 @@ get_prop_return_expr p = do
   v ← child 1 p.kids
   (is method p >> get_function_return_expr v) or_else (is key_value p >> get_value_return_expr v)
 
--- harmless
+-- expressions without a side effect, the harmless ones
 
 abbrev pub is_simple : Row → Bool
 is_simple r = r.kind == ident || r.kind == str || r.kind == num || r.kind == other_lit || r.kind == object
 
+-- of an expression and of the property of a member expression, by their children and rows
 abbrev mutual
   pub harmless : Forest → Row → Bool
   harmless nil r = is_simple r
@@ -186,21 +192,46 @@ abbrev mutual
 abbrev pub is_non_side_effect_expr : Node → Bool
 is_non_side_effect_expr n = harmless n.kids n.row
 
-abbrev pub returns_harmless : Option Node → Bool
-returns_harmless None = false
-returns_harmless (Some e) = is_non_side_effect_expr e
+abbrev pub is_non_side_effect_member_prop : Node → Bool
+is_non_side_effect_member_prop p = harmless_prop p.kids p.row
 
--- of a `get` that there is, that it returns a harmless expression
-abbrev pub harmless_get : Option Node → Bool
-harmless_get None = true
-harmless_get (Some g) = returns_harmless (get_prop_return_expr g)
+abbrev pub is_non_side_effect_block_stmt : Node → Bool
+is_non_side_effect_block_stmt b = so (do
+  e ← get_block_stmt_return_expr b
+  Some (is_non_side_effect_expr e))
+
+abbrev pub is_non_side_effect_block_stmt_or_expr : Node → Bool
+is_non_side_effect_block_stmt_or_expr b = cond (is block b) (is_non_side_effect_block_stmt b) (is_non_side_effect_expr b)
+
+abbrev pub is_non_side_effect_function : Node → Bool
+is_non_side_effect_function f = so (do
+  b ← final f.kids
+  Some (is_non_side_effect_block_stmt b))
+
+-- properties whose value is safe to read
+
+-- a function or an arrow function that stands as a value
+abbrev pub is_supported_get_value : Node → Bool
+is_supported_get_value v = so (do
+  f ← final v.kids
+  Some (is fn_expr v && is_non_side_effect_function f || is arrow v && is_non_side_effect_block_stmt_or_expr f))
+
+abbrev pub is_supported_get_prop : Node → Bool
+is_supported_get_prop p = so (do
+  v ← child 1 p.kids
+  Some (is method p && is_non_side_effect_function v || is key_value p && is_supported_get_value v))
+
+-- no property named `get`, or a supported one
+abbrev pub has_supported_get_prop : List ℕ → Forest → Bool
+has_supported_get_prop T ks = elim (get_object_define_get_prop T ks) [ Some p ↦ is_supported_get_prop p | None ↦ true ]
 
 abbrev pub is_valid_object_define_obj_lit : List ℕ → Node → Bool
-is_valid_object_define_obj_lit T n =
-    is object n && harmless_get (get_object_define_get_prop T n.kids)
+is_valid_object_define_obj_lit T n = is object n && has_supported_get_prop T n.kids
 
 abbrev pub is_harmless_getter : Node → Bool
-is_harmless_getter p = returns_harmless (child 1 p.kids >>= get_block_stmt_return_expr)
+is_harmless_getter p = so (do
+  b ← child 1 p.kids
+  Some (is_non_side_effect_block_stmt b))
 
 abbrev pub is_supported_object_prop : Node → Bool
 is_supported_object_prop p =

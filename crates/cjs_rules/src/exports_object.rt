@@ -1,7 +1,7 @@
 //! The exports object: `exports` and `module.exports`.
 ghost use Rattle.std.specs.Prelude.{◌≡◌};
 ghost use Rattle.cjs_rules.specs.Nodes.{here, section};
-ghost use Rattle.cjs_rules.specs.Rules.{get_member_prop_text, is_exports_expr, is_module_exports_member, is_module_exports_or_exports};
+ghost use Rattle.cjs_rules.specs.Rules.{get_member_prop_text, is_exports_expr, is_module_exports_expr, is_module_exports_member, is_module_exports_or_exports};
 
 use crate::words::{is_ident, is_plain_str};
 use kinds::kind::Kind;
@@ -45,9 +45,16 @@ pub fn is_exports_expr(node: Node) -> bool
     is_ident(node, b"exports")
 }
 
+/// Whether a node is a member expression `module.exports`.
+fn is_module_exports_expr(node: Node) -> bool
+    ensures { result ≡ is_module_exports_expr (section node.entry) (here node.entry) }
+{
+    node.is(Kind::Member) && is_module_exports_member(node)
+}
+
 /// Whether a node is the exports object, under either name.
 pub fn is_module_exports_or_exports(node: Node) -> bool
     ensures { result ≡ is_module_exports_or_exports (section node.entry) (here node.entry) }
 {
-    node.is(Kind::Member) && is_module_exports_member(node) || is_exports_expr(node)
+    is_module_exports_expr(node) || is_exports_expr(node)
 }

@@ -1,4 +1,4 @@
-//! The rules of CommonJS exports. docs/FINDINGS.md has the names that the helpers of the ported source have.
+//! The rules of CommonJS exports, under the names of the ported source's helpers. docs/FINDINGS.md states them.
 #![tactic(auto)]
 
 pub mod calls;

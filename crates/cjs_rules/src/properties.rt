@@ -2,11 +2,14 @@
 ghost use Rattle.std.specs.Prelude.{◌≡◌, Some};
 ghost use Rattle.cjs_rules.specs.Names.{shown};
 ghost use Rattle.cjs_rules.specs.Nodes.{Finds, here, place, section, seen, text_of};
-ghost use Rattle.cjs_rules.specs.Rules.{get_object_define_get_prop, get_prop_name, is_get, is_harmless_getter, is_supported_object_prop, is_valid_object_define_obj_lit, prop_name_from_key, returns_harmless};
+ghost use Rattle.cjs_rules.specs.Rules.{get_object_define_get_prop, get_prop_name, has_supported_get_prop, is_get, is_harmless_getter, is_supported_get_prop, is_supported_get_value, is_supported_object_prop, is_valid_object_define_obj_lit, prop_name_from_key};
 
-use crate::harmless::harmless;
+use crate::harmless::{
+    is_non_side_effect_block_stmt, is_non_side_effect_block_stmt_or_expr,
+    is_non_side_effect_function,
+};
 use crate::prop_name::{Part, PropName};
-use crate::returned::{get_block_stmt_return_expr, get_prop_return_expr};
+use crate::returned::last_child;
 use crate::words::is_plain_str;
 use kinds::kind::Kind;
 use text::is_word;
@@ -69,26 +72,54 @@ pub fn get_object_define_get_prop<'t, 'a>(object: Node<'t, 'a>) -> Option<Node<'
         .find(|property| is_get(get_prop_name(*property)))
 }
 
-/// Whether a node is an object whose `get`, if it has one, returns a harmless expression.
+/// Whether a function that stands as a value does no more than return a harmless expression.
+fn is_supported_get_value(value: Node) -> bool
+    ensures { result ≡ is_supported_get_value (here value.entry) }
+{
+    match value.kind() {
+        Kind::FnExpr => last_child(value).is_some_and(is_non_side_effect_function),
+        Kind::Arrow => last_child(value).is_some_and(is_non_side_effect_block_stmt_or_expr),
+        _ => false,
+    }
+}
+
+/// Whether the function in a property does no more than return a harmless expression.
+#[tactic(auto, using(crate::proofs::FirstTwo::at_most_one))]
+fn is_supported_get_prop(property: Node) -> bool
+    ensures { result ≡ is_supported_get_prop (here property.entry) }
+{
+    let Some((_key, value)) = property.first_two() else {
+        return false;
+    };
+    match property.kind() {
+        Kind::Method => is_non_side_effect_function(value),
+        Kind::KeyValue => is_supported_get_value(value),
+        _ => false,
+    }
+}
+
+/// Whether the `get` of an object, if it has one, does no more than return a harmless expression.
+fn has_supported_get_prop(object: Node) -> bool
+    ensures { result ≡ has_supported_get_prop (section object.entry) (here object.entry).kids }
+{
+    get_object_define_get_prop(object).is_none_or(is_supported_get_prop)
+}
+
+/// Whether a node is an object with a supported `get` or with none.
 pub fn is_valid_object_define_obj_lit(node: Node) -> bool
     ensures { result ≡ is_valid_object_define_obj_lit (section node.entry) (here node.entry) }
 {
-    if !node.is(Kind::Object) {
-        return false;
-    }
-    let getter = get_object_define_get_prop(node);
-    getter.is_none_or(|getter| get_prop_return_expr(getter).is_some_and(harmless))
+    node.is(Kind::Object) && has_supported_get_prop(node)
 }
 
-/// Whether a getter returns a harmless expression.
+/// Whether a getter does no more than return a harmless expression.
 #[tactic(auto, using(crate::proofs::FirstTwo::at_most_one))]
 fn is_harmless_getter(getter: Node) -> bool
     ensures { result ≡ is_harmless_getter (here getter.entry) }
 {
     getter
         .first_two()
-        .and_then(|(_key, body)| get_block_stmt_return_expr(body))
-        .is_some_and(harmless)
+        .is_some_and(|(_key, body)| is_non_side_effect_block_stmt(body))
 }
 
 /// Whether a property of an object that is assigned to the exports object is safe to read.

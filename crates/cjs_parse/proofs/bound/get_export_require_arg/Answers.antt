@@ -5,7 +5,6 @@ use Rattle.tree.specs.Subject.{tree_text}
 use Rattle.cjs_rules.specs.Nodes.{any_of_kind, here}
 use Rattle.cjs_rules.specs.Rules.{none_or_exports, required_or_bound}
 use Rattle.cjs_parse.specs.Bound.{bound_in}
-use Rattle.cjs_parse.proofs.RequireArg.{by_first, require_arg_by_first}
 use Rattle.cjs_parse.proofs.bound.get_export_require_arg.Goals as goal
 
 pub returns-then-is_for_exports : goal.returns-then-is_for_exports
@@ -17,6 +16,4 @@ returns-then-is_for_exports c =
     let others = c.next.new.self in
     let no_spread : any_of_kind spread (left c.args.args) ≡ false = sym c.has_spread_argument.ensures ∙ c.if-has_spread_argument.false in
     let alone : none_or_exports T (left others) ≡ true = ap (λ S. none_or_exports S (left others)) (sym (ap tree_text steps.same)) ∙ sym c.is_for_exports.ensures ∙ c.if-is_for_exports.true in
-    let first : c.get_required_or_bound.result ≡ by_first T bound (left c.args.args) =
-    rw (no_spread, steps.first, alone) (c.get_required_or_bound.ensures ∙ ap (λ S. required_or_bound S bound (here a)) (ap tree_text steps.tree)) in
-    first ∙ require_arg_by_first T bound (left c.args.args)
+    rw (no_spread, steps.first, alone) (c.get_required_or_bound.ensures ∙ ap (λ S. required_or_bound S bound (here a)) (ap tree_text steps.tree))
