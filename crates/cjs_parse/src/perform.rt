@@ -1,7 +1,7 @@
 //! Nodes of the walk and their events, entered in the tables.
 ghost use Rattle.std.specs.Prelude.{◌≡◌, ◌<◌, length, MatchOption};
-ghost use Rattle.cjs_law.specs.Events.{assign_right, each, events, visit_assign_expr};
-ghost use Rattle.cjs_law.specs.Events.{visit_exports_right_expr, visit_prop, visit_var_decl};
+ghost use Rattle.cjs_law.specs.Events.{assign_right, each, events, once, visit_assign_expr};
+ghost use Rattle.cjs_law.specs.Events.{visit_call_expr, visit_exports_right_expr, visit_prop, visit_var_decl};
 ghost use Rattle.cjs_parse.specs.Moving.{MovesOn, bound_by};
 ghost use Rattle.cjs_rules.specs.Nodes.{Finds, here, section};
 ghost use Rattle.tree.specs.Subject.{tree_rows};
@@ -66,6 +66,14 @@ impl Walk<'_, '_, '_> {
         }
     }
 
+    /// Enters what a Call asks for.
+    fn visit_call_expr(&mut self, call: Node) -> Result<(), Full>
+        ensures { MovesOn self.old (once (visit_call_expr (section call.entry) (bound_by self.old) (here call.entry).kids)) result self.new }
+    {
+        let event = visit_call_expr(self.bindings(), call);
+        self.perform(event)
+    }
+
     /// Enters what an Assign of mark 0 asks for.
     #[tactic(auto, using(crate::proofs::Firsts::to_exports, crate::proofs::Moving::moves_as))]
     fn visit_assign_expr(&mut self, assign: Node) -> Result<(), Full>
@@ -89,10 +97,7 @@ impl Walk<'_, '_, '_> {
     {
         match node.kind() {
             Kind::VarDecl => self.visit_var_decl(node),
-            Kind::Call => {
-                let event = visit_call_expr(self.bindings(), node);
-                self.perform(event)
-            }
+            Kind::Call => self.visit_call_expr(node),
             Kind::Assign if !node.is_marked() => self.visit_assign_expr(node),
             _ => Ok(()),
         }
