@@ -4,6 +4,8 @@ A tree is written as a tuple: its kind (a name or a number), then in any order i
 and its children (tuples). What is left out is 0, empty and none:
 
     ("Program", 1, ("Assign", ("Member", ("Ident", b"exports"), ("Ident", b"a")), ("Num",)))
+
+Equal texts share their bytes, but a text of the class `Own` has bytes of its own. notation.py has a form in words for the same trees.
 """
 import functools
 import struct
@@ -20,8 +22,13 @@ def number_of(kind):
     return NUMBER[kind] if isinstance(kind, str) else kind
 
 
+class Own(bytes):
+    """A text that gets bytes of its own, also where an equal one stands in the text section."""
+
+
 def flat(tree):
-    """The rows of a tree, each a list of five numbers, and its text section. Equal texts share their bytes."""
+    """The rows of a tree, each a list of five numbers, and its text section. A text that is not `Own` shares the bytes
+    of the last equal text before it."""
     rows, text, known = [], bytearray(), {b"": 0}
 
     def add(node):
@@ -31,7 +38,7 @@ def flat(tree):
             if isinstance(part, tuple):
                 add(part)
             elif isinstance(part, bytes):
-                if part not in known:
+                if isinstance(part, Own) or part not in known:
                     known[part] = len(text)
                     text.extend(part)
                 row[2:4] = known[part], len(part)

@@ -334,18 +334,24 @@ def child_kinds(rows, row):
     return kinds
 
 
+def checked(block):
+    """The rows and the text section of a lawful block. Any other block is refused."""
+    rows, text = sections(block)
+    too_deep = depths([row[4] for row in rows])
+    if too_deep is not None:
+        raise Refused(DEPTH, too_deep)
+    for number, (kind, mark, _, _, _) in enumerate(rows):
+        if not row_fits(number, kind, mark, child_kinds(rows, number)):
+            raise Refused(SHAPE, number)
+    for number, (kind, _, offset, length, _) in enumerate(rows):
+        if not text_fits(kind, offset, length, text):
+            raise Refused(TEXT, number)
+    return rows, text
+
+
 def answer(block):
     try:
-        rows, text = sections(block)
-        too_deep = depths([row[4] for row in rows])
-        if too_deep is not None:
-            raise Refused(DEPTH, too_deep)
-        for number, (kind, mark, _, _, _) in enumerate(rows):
-            if not row_fits(number, kind, mark, child_kinds(rows, number)):
-                raise Refused(SHAPE, number)
-        for number, (kind, _, offset, length, _) in enumerate(rows):
-            if not text_fits(kind, offset, length, text):
-                raise Refused(TEXT, number)
+        rows, _ = checked(block)
         return found(is_script(rows[0][1], child_kinds(rows, 0)))
     except Refused as refused:
         return refused.line
