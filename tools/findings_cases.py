@@ -1,7 +1,8 @@
 #!/usr/bin/env python3
 """Trials of the two analyses whose answers are written by hand: findings_cases.txt.
 
-Each case there has a name, a tree in the notation of notation.py and its answer, a line for each list that is not empty:
+Each case there has a name, a tree in the notation of notation.py and its answer, with a line for each list that is not
+empty:
 
     bindings e=x            CommonJS: the variable and the specifier bound to it
     exports a b             CommonJS, in the order of the list
@@ -13,10 +14,11 @@ Each case there has a name, a tree in the notation of notation.py and its answer
     es refused at KIND      ES: refusal 6, and the row it is placed at
     script                  a module that is treated as a script; a script is one without this line
     sizes B E R U           rows of the four tables; 65,536 each if left out
+    fault 3 layer 2 ...     the block is refused with this line
     nothing                 all lists are empty
 
-Where a text stands at more than one place of the tree, `a#2` is the second; so is `Assign#2` for rows of a kind. A line
-`let NAME = TREE` gives a name to a part of trees, which `$NAME` stands for. The words of a list are written loosely read.
+Where a text stands at more than one place of the tree, `a#2` is the second; so is `Assign#2` for rows of a kind. The
+words of a list are written loosely read. A line `let NAME = TREE` gives a name to a part of trees, which `$NAME` stands for.
 
     findings_cases.py                 compares the model with the answers, and writes the streams and lines to out/
     findings_cases.py --run PROGRAM   compares a program with the answers, too
@@ -39,7 +41,7 @@ TABLE = pathlib.Path(__file__).resolve().with_suffix(".txt")
 OUT = TABLE.parent.parent / "out"
 ITEM = re.compile(r'(\(default\)|"(?:[^"\\]|\\.)*"|[^\s="#]+)(?:#(\d+))?')
 LISTS = ("bindings", "exports", "re-exports", "unsafe", "es exports", "es re-exports")
-LINE = re.compile("(" + "|".join(LISTS) + r"|sizes|refused at|es refused at|script|nothing)(?: (.+))?")
+LINE = re.compile("(" + "|".join(LISTS) + r"|sizes|fault|refused at|es refused at|script|nothing)(?: (.+))?")
 
 
 class NotACase(Exception):
@@ -179,6 +181,8 @@ def is_script(case):
 
 def written_findings(case):
     """The line of `findings` as the written answer has it."""
+    if "fault" in case.answer:
+        return "fault " + case.answer["fault"]
     cjs = shown_part(case, "refused at", "bindings", "exports", "re-exports", "unsafe")
     es = shown_part(case, "es refused at", "none", "es exports", "es re-exports", "none")
     return f"{is_script(case)} | {cjs} | {es}"
@@ -186,6 +190,8 @@ def written_findings(case):
 
 def written_answers(case):
     """The line of `answers` as the written answer has it; only for cases whose tables have their full size."""
+    if "fault" in case.answer:
+        return "fault " + case.answer["fault"]
     words = [str(is_script(case))]
     for name in "exports", "re-exports", "es exports", "es re-exports":
         texts = [b"default" if text is None else text for text, _ in items(case.answer.get(name, ""))]

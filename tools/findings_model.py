@@ -4,7 +4,7 @@ docs/PROGRAM.md, without sight of the program.
 
 `findings_line` and `answers_line` give the line for one block, `stream` the lines for a stream of blocks.
 
-    findings_model.py findings [B E R U] < STREAM     lines with the places of all rows; table sizes, 65,536 each if left out
+    findings_model.py findings [B E R U] < STREAM     lines with places; the tables have 65,536 rows each if left out
     findings_model.py answers < STREAM                lines with the texts of the names
     findings_model.py --self-test
 """

@@ -5,7 +5,8 @@ and its children (tuples). What is left out is 0, empty and none:
 
     ("Program", 1, ("Assign", ("Member", ("Ident", b"exports"), ("Ident", b"a")), ("Num",)))
 
-Equal texts share their bytes, but a text of the class `Own` has bytes of its own. notation.py has a form in words for the same trees.
+Equal texts share their bytes, but a text of the class `Own` has bytes of its own. notation.py has a form in words for
+the same trees.
 """
 import functools
 import struct

@@ -1,20 +1,22 @@
 #!/usr/bin/env python3
-"""A notation in words for trees.
+r"""A notation in words for trees.
 
     Program:1(Assign(Member(exports, a), Num))
 
 A row is its kind, then `:` and its mark if that is not 0, then its text in quotes, then its children in parentheses.
 Two short forms: a word that begins with a small letter, `_` or `$` is an Ident, and a text in quotes alone is a Str.
-So `a` is `Ident"a"`, and `"a"` is `Str"a"`; the variable `Object` has to be written `Ident"Object"`.
+So `a` is `Ident"a"`, and `"a"` is `Str"a"`; the variable `Object` has to be written `Ident"Object"`. A long chain is
+written `Assign*3(a, b)` for `Assign(a, Assign(a, Assign(a, b)))`.
 
-In a text, `\\"` `\\\\` `\\n` `\\t` `\\r` stand for one character, and `\\uD800` or `\\u{1F600}` for a code point by its
-hexadecimal number; it may be a surrogate, and a lead surrogate before a trail one is one code point. Every text has bytes
-of its own; `@` before a row says that its text shares the bytes of the last equal text before it.
+In a text, `\"` `\\` `\n` `\t` `\r` stand for one character, and `\uD800` or `\u{1F600}` for a code point by its
+hexadecimal number; it may be a surrogate, and a lead surrogate before a trail one is one code point. Every text has
+bytes of its own; `@` before a row says that its text shares the bytes of the last equal text before it.
 
     notation.py TREE            prints the tree block in hexadecimal
     notation.py --block HEX     prints the tree of a lawful block, given in hexadecimal
     notation.py --self-test
 """
+import functools
 import random
 import re
 import sys
@@ -24,7 +26,7 @@ sys.dont_write_bytecode = True  # leave no cache beside the tools
 from mktree import Own, block, flat, random_block
 from tree_model import EXAMPLE, KINDS, NUMBER, checked
 
-TOKEN = re.compile(r'\s*(?:([(),:@])|([\w$]+)|"((?:[^"\\]|\\.)*)"|(\S))', re.DOTALL)
+TOKEN = re.compile(r'\s*(?:([(),:@*])|([\w$]+)|"((?:[^"\\]|\\.)*)"|(\S))', re.DOTALL)
 ESCAPE = re.compile(r"\\(?:u\{([0-9A-Fa-f]+)\}|u([0-9A-Fa-f]{4})|(.))", re.DOTALL)
 CHARACTERS = {"n": "\n", "t": "\t", "r": "\r", '"': '"', "\\": "\\"}
 WORD = re.compile(r"[a-z_$][A-Za-z0-9_$]*")
@@ -87,6 +89,9 @@ class Reader:
         self.at += 1
         return self.tokens[self.at - 1]
 
+    def number(self):
+        return int(self.take()[1])
+
     def quoted(self):
         """Takes a text if one comes next."""
         if self.at < len(self.tokens) and self.tokens[self.at][2] is not None:
@@ -101,12 +106,14 @@ class Reader:
         elif word is not None and WORD.fullmatch(word):
             kind, mark, quoted = "Ident", 0, word
         elif word in NUMBER:
-            kind, mark = word, int(self.take()[1]) if self.sign(":") else 0
+            kind, mark = word, self.number() if self.sign(":") else 0
             quoted = self.quoted()
         else:
             raise NotATree(f"no row begins with {word or self.tokens[self.at - 1]}")
         text = [] if quoted is None else [(bytes if shared else Own)(unescaped(quoted))]
-        return (kind, mark, *text, *self.children())
+        times = self.number() if self.sign("*") else 1
+        made = (kind, mark, *text, *self.children())
+        return functools.reduce(lambda inside, _: (*made[:-1], inside), range(times - 1), made)
 
     def children(self):
         if not self.sign("("):
@@ -200,6 +207,7 @@ def test_words():
     assert flat(tree_of(same))[1] == texts
     shown = 'Program(a, @a, a, "a\\u{D800}", "\U0001F600\\"\\\\", Shorthand"Ä", Num:1, Assign:1(@"a", Ident"Object"))'
     assert words_of(tree_of(same)) == shown and block_of(shown) == block_of(same)
+    assert tree_of("Assign*3(a, b)") == tree_of("Assign(a, Assign(a, Assign(a, b)))")
 
 
 def test_no_tree():
