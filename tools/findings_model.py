@@ -14,10 +14,11 @@ import sys
 
 sys.dont_write_bytecode = True  # leave no cache beside the tools
 
-from tree_model import EXAMPLE, KINDS, MOST_BYTES, NUMBER, Refused, checked, child_kinds, is_script
+from tree_model import EXAMPLE, KINDS, MOST_BYTES, Refused, checked, child_kinds, is_script
 
 AMPLE = (65_536,) * 4
 NAMES = [kind.name for kind in KINDS]
+WITH_TEXT = {number for number, kind in enumerate(KINDS) if kind.text is not None}
 TEXTLESS = (0, 0xFFFF_FFFF)
 DEFAULT = b"default"
 
@@ -36,18 +37,17 @@ class Row:
 
 
 def tree(rows, text):
-    """All rows of a lawful block, each with its children."""
-    made, inside = [], []
-    for number, (kind, mark, offset, length, end) in enumerate(rows):
-        has_text = KINDS[kind].text is not None
-        row = Row(number, NAMES[kind], mark, (offset, length), text[offset:offset + length] if has_text else None)
-        while inside and inside[-1][0] <= number:
-            inside.pop()
-        if inside:
-            inside[-1][1].children.append(row)
-        inside.append((end, row))
-        made.append(row)
-    return made
+    """The Program of a lawful block with the rows below it."""
+    made = []
+    for number, (kind, mark, offset, length, _) in enumerate(rows):
+        own = text[offset:offset + length] if kind in WITH_TEXT else None
+        made.append(Row(number, NAMES[kind], mark, (offset, length), own))
+    for row, (_, _, _, _, end) in zip(made, rows):
+        at = row.number + 1
+        while at < end:
+            row.children.append(made[at])
+            at = rows[at][4]
+    return made[0]
 
 
 # ---------------------------------------------------------------------------------------------------------------
@@ -481,10 +481,18 @@ def shown_lists(lists):
     return f"b {bindings} e {exports} r {reexports} u {unsafe}"
 
 
-def analysed(block):
-    """The Program of a lawful block, its text section and the script answer."""
-    rows, text = checked(block)
-    return tree(rows, text)[0], text, int(is_script(rows[0][1], child_kinds(rows, 0)))
+class Opened:
+    """A block: `fault` is the line of its refusal or None, the rest is what a lawful one holds."""
+
+    def __init__(self, block):
+        self.fault = None
+        try:
+            rows, self.text = checked(block)
+        except Refused as refused:
+            self.fault = refused.line
+            return
+        self.program = tree(rows, self.text)
+        self.script = int(is_script(rows[0][1], child_kinds(rows, 0)))
 
 
 def part(analysis, program, sizes):
@@ -494,12 +502,15 @@ def part(analysis, program, sizes):
         return refused.line
 
 
+def findings_of(opened, sizes):
+    if opened.fault:
+        return opened.fault
+    cjs, es = (part(analysis, opened.program, sizes) for analysis in (cjs_lists, es_lists))
+    return f"{opened.script} | {cjs} | {es}"
+
+
 def findings_line(block, sizes=AMPLE):
-    try:
-        program, _, script = analysed(block)
-    except Refused as refused:
-        return refused.line
-    return f"{script} | {part(cjs_lists, program, sizes)} | {part(es_lists, program, sizes)}"
+    return findings_of(Opened(block), sizes)
 
 
 def read(place, text):
@@ -508,16 +519,18 @@ def read(place, text):
     return DEFAULT if place == TEXTLESS else loose(text[offset:offset + length])
 
 
-def answers_line(block):
-    try:
-        program, text, script = analysed(block)
-    except Refused as refused:
-        return refused.line
-    words = [str(script)]
-    for lists in cjs_lists(program, AMPLE), es_lists(program, AMPLE):
+def answers_of(opened):
+    if opened.fault:
+        return opened.fault
+    words = [str(opened.script)]
+    for lists in cjs_lists(opened.program, AMPLE), es_lists(opened.program, AMPLE):
         for places in lists.exports, lists.reexports:
-            words.append(joined(["." + read(place, text).hex() for place in places]))
+            words.append(joined(["." + read(place, opened.text).hex() for place in places]))
     return " ".join(words)
+
+
+def answers_line(block):
+    return answers_of(Opened(block))
 
 
 def stream(data, line):

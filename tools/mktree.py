@@ -9,6 +9,7 @@ Equal texts share their bytes, but a text of the class `Own` has bytes of its ow
 the same trees.
 """
 import functools
+import itertools
 import struct
 
 from tree_model import ANY, COUNT, KINDS, MODULE_ITEMS, NUMBER, PROGRAM, ROW_BYTES
@@ -56,7 +57,7 @@ def pack(rows, text=b"", before=b"", between=b"", after=b""):
     length = ROW_BYTES * len(rows)
     offset = 16 + len(before)
     header = struct.pack("<4I", offset, length, offset + length + len(between), len(text))
-    body = struct.pack(f"<{5 * len(rows)}I", *(number for row in rows for number in row))
+    body = struct.pack(f"<{5 * len(rows)}I", *itertools.chain.from_iterable(rows))
     return header + before + body + between + text + after
 
 

@@ -61,7 +61,7 @@ def escaped(data):
     out = []
     for character in data.decode("utf-8", "surrogatepass"):
         shown = signs.get(character, character)
-        out.append(shown if shown.isprintable() else f"\\u{{{ord(character):X}}}")
+        out.append(shown if shown.isprintable() and shown != "\uFFFD" else f"\\u{{{ord(character):X}}}")
     return "".join(out)
 
 
