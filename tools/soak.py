@@ -1,11 +1,12 @@
 #!/usr/bin/env python3
-"""Compares a program with the model on random tree blocks.
+"""Compares a program with the model of findings_model.py on random tree blocks.
 
     soak.py PROGRAM COUNT SEED
 
-makes COUNT blocks from SEED (lawful, damaged, random numbers, now and then a large or a deep one), hands them in
-chunks to `PROGRAM findings` and compares each line. It prints the number compared and the first disagreements with
-their blocks in hexadecimal, and ends with status 1 if there are any. `tools/tree_model.py` itself will do as PROGRAM.
+makes COUNT blocks from SEED: trees close to the rules of the findings, other lawful trees, damaged blocks, random numbers,
+now and then a large or a deep tree. It hands them in chunks to `PROGRAM findings B E R U`, with other table sizes for each
+chunk, and to `PROGRAM answers`, and compares each line. The first differences are printed with their blocks in hexadecimal
+and the smallest tree that still shows them. The status is 1 if there are any. `tools/findings_model.py` will do as PROGRAM.
 
     soak.py --self-test
 """
@@ -16,18 +17,27 @@ import subprocess
 import sys
 import tempfile
 import time
+import zlib
 
 sys.dont_write_bytecode = True  # leave no cache beside the tools
 
-from mktree import (announced, damaged, deep_block, random_block, random_bytes, random_ends, random_kinds, random_text,
-                    random_texts)
-from tree_model import MOST_BYTES, ROW_BYTES, answer, stream
+from findings_model import Opened
+from mktree import (announced, block, damaged, deep_block, random_block, random_bytes, random_ends, random_kinds,
+                    random_text, random_texts)
+from notation import tree_in, words_of
+from rule_trees import near, rule_tree
+from shrink import expected, shrunk, weight
+from tree_model import MOST_BYTES, ROW_BYTES, answer
 
 CHUNK = 4000
 CHUNK_BYTES = 8_000_000
 SHOWN = 10
 SHOWN_BYTES = 4000
+SHRUNK_BYTES = 20_000
 TIME_LIMIT = 600
+
+# ---------------------------------------------------------------------------------------------------------------
+# Blocks
 
 
 def small_lawful(rng, texts):
@@ -53,6 +63,14 @@ def large(rng, texts):
     return damaged(rng, block) if rng.random() < 0.7 else block
 
 
+def many_rules(rng):
+    """The rows of many trees under one Program."""
+    trees = [rule_tree(rng) for _ in range(rng.choice((20, 100, 300)))]
+    mark = rng.choice((0, 0, 1))
+    children = [part for tree in trees if mark == 0 or tree[1] == 1 for part in tree[1:] if isinstance(part, tuple)]
+    return block(("Program", mark, *children))
+
+
 def widest(rng):
     """At the bound of the row number: one row fewer, as many as allowed, or one more, all children of row 0."""
     count = rng.choice((65535, 65536, 65537))
@@ -72,16 +90,16 @@ def longest(rng, texts):
     return struct.pack("<4I", 16, 40, 56, size - 56) + rows + text
 
 
-def make(rng, texts):
-    """One block."""
+def make_any(rng, texts):
+    """One block for the check of trees."""
     die = rng.random()
-    if die < 0.0001:
-        return longest(rng, texts) if die < 0.00005 else widest(rng)
-    if die < 0.0006:
+    if die < 0.0005:
+        return longest(rng, texts) if die < 0.00025 else widest(rng)
+    if die < 0.003:
         return large(rng, texts)
-    if die < 0.0026:
+    if die < 0.01:
         return deep(rng)
-    if die < 0.30:
+    if die < 0.40:
         return small_lawful(rng, texts)
     if die < 0.75:
         return small_damaged(rng, texts)
@@ -94,8 +112,32 @@ def make(rng, texts):
     return random_bytes(rng)
 
 
+def make(rng, texts):
+    """One block, mostly one close to the rules of the findings."""
+    die = rng.random()
+    if die < 0.0005:
+        return many_rules(rng)
+    if die < 0.60:
+        return block(rule_tree(rng))
+    if die < 0.75:
+        return block(near(rng, rule_tree(rng)))
+    if die < 0.85:
+        return damaged(rng, block(rule_tree(rng)))
+    return make_any(rng, texts)
+
+
+def sizes(rng):
+    """The sizes of the four tables for one run: none given, ample, or mostly too few rows."""
+    die = rng.random()
+    if die < 0.05:
+        return []
+    if die < 0.35:
+        return [str(rng.choice((20, 64, 1000)))] * 4
+    return [str(rng.choice((0, 0, 1, 1, 2, 3, 4, 8, 64))) for _ in range(4)]
+
+
 def chunks(count, seed):
-    """Lists of blocks, `count` blocks in all, each list with the number of bytes to cut off its stream."""
+    """Lists of blocks, `count` blocks in all, each with the number of bytes to cut off its stream and the commands."""
     rng = random.Random(seed)
     while count > 0:
         texts = [random_text(rng) for _ in range(300)]
@@ -106,77 +148,134 @@ def chunks(count, seed):
             count -= 1
         last = len(blocks[-1])
         cut = rng.randint(1, last + 3) if rng.random() < 0.25 and last <= MOST_BYTES else 0
-        yield blocks, cut
+        commands = [["findings", *sizes(rng)], ["findings", *sizes(rng)]]
+        yield blocks, cut, commands + ([["answers"]] if rng.random() < 0.5 else [])
 
 
-def run(program, data):
-    """The lines that the program prints for a stream."""
-    done = subprocess.run([program, "findings"], input=data, stdout=subprocess.PIPE, timeout=TIME_LIMIT)
-    if done.returncode < 0:
-        print(f"the program was ended by signal {-done.returncode}")
-    return done.stdout.decode("ascii", "replace").splitlines()
+# ---------------------------------------------------------------------------------------------------------------
+# Comparison
 
 
-def shown(block):
-    if len(block) <= SHOWN_BYTES:
-        return block.hex()
-    return f"{block[:SHOWN_BYTES].hex()}... ({len(block)} bytes)"
+def runner(program):
+    """What gives the lines that the program prints for a command and a stream."""
+    def run(command, data):
+        done = subprocess.run([program, *command], input=data, stdout=subprocess.PIPE, timeout=TIME_LIMIT)
+        if done.returncode < 0:
+            print(f"the program was ended by signal {-done.returncode}")
+        return done.stdout.decode("ascii", "replace").splitlines()
+    return run
 
 
-def keep(block, seed, number):
-    """Writes a long block to a file of its own."""
-    path = pathlib.Path(tempfile.gettempdir()) / f"soak-{seed}-{number}.tree"
-    path.write_bytes(block)
-    return path
+def shown(data):
+    if len(data) <= SHOWN_BYTES:
+        return data.hex()
+    path = pathlib.Path(tempfile.gettempdir()) / f"soak-{zlib.crc32(data)}.tree"
+    path.write_bytes(data)
+    return f"{data[:SHOWN_BYTES].hex()}... ({len(data)} bytes, whole in {path})"
+
+
+def told_lines(run, command, data):
+    program = ", ".join(run(command, announced(data))) or "nothing"
+    return f"  the model says `{expected(command, Opened(data))}`, the program `{program}`"
+
+
+def report(run, command, data):
+    """Prints a difference. For a lawful block it prints and gives the smallest tree with one, too."""
+    print(f"{' '.join(command)} on {shown(data)}")
+    print(told_lines(run, command, data))
+    if Opened(data).fault or len(data) > SHRUNK_BYTES:
+        return None
+    tree = tree_in(data)
+    if run(command, announced(block(tree))) == [expected(command, Opened(block(tree)))]:
+        print(f"  {words_of(tree)} (shows no difference when put together anew)")
+        return None
+    tree = shrunk(run, command, tree)
+    print(f"  {words_of(tree)}")
+    print(told_lines(run, command, block(tree)))
+    return tree
+
+
+def tally_of(line):
+    """What a line is counted as."""
+    if "|" not in line:
+        return line.split(" layer")[0] if line.startswith("fault") else "answers"
+    parts = [part.strip() for part in line.split("|")]
+    full = [name for name, part in zip(("CommonJS", "ES"), parts[1:]) if part.startswith("fault")]
+    return "fault 6 in " + " and ".join(full) if full else "with names" if ":" in line else "no names"
+
+
+class Soak:
+    """Compares chunk by chunk and counts. `smallest` are the trees that show the first differences."""
+
+    def __init__(self, program, most_shown):
+        self.run, self.most_shown = runner(program), most_shown
+        self.compared = self.wrong = 0
+        self.tally, self.smallest = {}, []
+
+    def command(self, command, blocks, opened, cut):
+        data = b"".join(map(announced, blocks))
+        got = self.run(command, data[:len(data) - cut])
+        wanted = [expected(command, each) for each in opened]
+        if cut:
+            wanted[-1] = "short"
+        self.compared += len(wanted)
+        for at in range(max(len(wanted), len(got))):
+            want, have = (lines[at] if at < len(lines) else "no line" for lines in (wanted, got))
+            name = tally_of(want)
+            self.tally[name] = self.tally.get(name, 0) + 1
+            if want == have:
+                continue
+            self.wrong += 1
+            if self.wrong <= self.most_shown and at < len(blocks) - bool(cut):
+                self.smallest.append(report(self.run, command, blocks[at]))
+            elif self.wrong <= self.most_shown:
+                print(f"{' '.join(command)}, line {at} of {len(wanted)}: the model says `{want}`, the program `{have}`")
 
 
 def soak(program, count, seed, most_shown=SHOWN):
-    """Gives how many lines disagree."""
-    compared = wrong = 0
-    tally = {}
-    start = time.time()
-    for blocks, cut in chunks(count, seed):
-        data = b"".join(map(announced, blocks))
-        data = data[:len(data) - cut]
-        expected = stream(data)
-        got = run(program, data)
-        for at in range(max(len(expected), len(got))):
-            want, have = (lines[at] if at < len(lines) else "no line" for lines in (expected, got))
-            name = want.split(" layer")[0]
-            tally[name] = tally.get(name, 0) + 1
-            if want == have:
-                continue
-            wrong += 1
-            if wrong <= most_shown:
-                block = blocks[at] if at < len(blocks) else b""
-                print(f"block {compared + at}: the model says `{want}`, the program `{have}`\n  {shown(block)}")
-                if len(block) > SHOWN_BYTES:
-                    print(f"  whole in {keep(block, seed, compared + at)}")
-        compared += len(expected)
-    print(f"{compared} compared, {wrong} disagree, {time.time() - start:.0f} seconds")
-    print(", ".join(f"{name}: {number}" for name, number in sorted(tally.items())))
-    return wrong
+    soaked, start = Soak(program, most_shown), time.time()
+    for blocks, cut, commands in chunks(count, seed):
+        opened = [Opened(data) for data in blocks]
+        for command in commands:
+            soaked.command(command, blocks, opened, cut)
+    print(f"{count} blocks, {soaked.compared} lines, {soaked.wrong} differ, {time.time() - start:.0f} seconds")
+    print(", ".join(f"{name}: {number}" for name, number in sorted(soaked.tally.items())))
+    return soaked
 
 
-BROKEN = """#!/usr/bin/env python3
+# ---------------------------------------------------------------------------------------------------------------
+
+STAND_IN = """#!/usr/bin/env python3
 import sys
+sys.dont_write_bytecode = True
 sys.path.insert(0, {tools!r})
-import tree_model
-tree_model.DEEPEST = 257
-tree_model.main(["findings"])
+import findings_model, tree_model
+{mistake}
+findings_model.main(sys.argv[1:])
 """
+
+MISTAKES = [  # and the number of rows that the smallest tree needs which shows it
+    ("", 0),
+    ("tree_model.DEEPEST = 257", 0),
+    ("findings_model.Table.clear = lambda table: None", 11),
+    ("findings_model.is_export_word = lambda row: findings_model.is_ident(row, b'__export')", 6),
+    ("findings_model.CommonJs.drop_unsafe = lambda walk: None", 7),
+    ("findings_model.TEXTLESS = (0, 7)", 3),
+]
 
 
 def self_test():
-    """The model agrees with itself, and a model that allows a depth of 257 does not."""
-    tools = pathlib.Path(__file__).resolve().parent
+    """The model agrees with itself, and with no model that has a mistake; small trees show the mistakes."""
+    tools = str(pathlib.Path(__file__).resolve().parent)
     with tempfile.TemporaryDirectory() as place:
-        for name, text in (("same", BROKEN.replace("tree_model.DEEPEST = 257\n", "")), ("broken", BROKEN)):
-            program = pathlib.Path(place) / name
-            program.write_text(text.format(tools=str(tools)))
+        for number, (mistake, rows) in enumerate(MISTAKES):
+            program = pathlib.Path(place) / str(number)
+            program.write_text(STAND_IN.format(tools=tools, mistake=mistake))
             program.chmod(0o755)
-            wrong = soak(str(program), 9000, 1, most_shown=0)
-            assert (wrong > 0) == (name == "broken")
+            done = soak(str(program), 4000, 1, most_shown=2 if rows else 0)
+            assert (done.wrong > 0) == (mistake != ""), mistake
+            smallest = min((weight(tree)[0] for tree in done.smallest if tree), default=0)
+            assert smallest == rows, (mistake, smallest)
     print("soak: self-test passed")
 
 
@@ -184,7 +283,7 @@ def main(arguments):
     if arguments == ["--self-test"]:
         self_test()
     elif len(arguments) == 3:
-        sys.exit(1 if soak(arguments[0], int(arguments[1]), int(arguments[2])) else 0)
+        sys.exit(1 if soak(arguments[0], int(arguments[1]), int(arguments[2])).wrong else 0)
     else:
         sys.exit(__doc__)
 
