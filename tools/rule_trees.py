@@ -108,6 +108,7 @@ text
     "\uFFFD"
     "a\uD800"
     "a\uFFFD"
+    "\uD7FF"
     ""
     "x"
     "get"
@@ -120,6 +121,7 @@ specifier
     "a"
     "b"
     "\uFFFD"
+    "\uD7FF"
     "\uD800"
     ""
 key
@@ -192,6 +194,7 @@ keyed
     Member($bound, $name)
     Member($bound, Computed($text))
     Member(Paren($bound), Computed(k))
+    Member("e", Computed(k))
     Member($bound, Computed(Paren(k)))
     Member(Member($bound, a), Computed(k))
     Member($require, Computed(k))
@@ -224,6 +227,7 @@ function
     Function($name)
     Function(Other($body))
     Function(Return($returned))
+    Function(Other(Return($returned)))
 body
     30 Block(Return($returned))
     Block
@@ -277,6 +281,8 @@ star_call
     Call($star, $bound, $exports)
     Call($star, $require, exports, $value)
     Call($star, exports, $require)
+    Call($star, "e")
+    Call($star, Shorthand"e")
     Call($star, $value)
 star
     25 __export
@@ -315,6 +321,8 @@ define_call
     Call($define, $exports, $text, $descriptor, $value)
     Call($define, $exports, $text, $descriptor, Spread($name))
     Call($define, Spread($exports), $text, $descriptor)
+    Call($define, $exports, Shorthand"k", $descriptor)
+    Call($define, $exports, PrivateName"a", $descriptor)
     Call($define, $exports, $value, $descriptor)
 define
     40 Member(Ident"Object", defineProperty)
