@@ -1,6 +1,6 @@
 #!/usr/bin/env python3
 """Writes the stream trials: crates/stream_trials/stdin, a stream of tree blocks, and crates/stream_trials/stdout,
-the lines that the model of tree_model.py gives for it. The same bytes come out at every run.
+the lines that the model of findings_model.py gives for it. The same bytes come out at every run.
 
     tree_cases.py               writes the trials
     tree_cases.py --data        writes driver.tree, module.tree and damaged.tree, the data of export_names
@@ -15,10 +15,11 @@ import sys
 
 sys.dont_write_bytecode = True  # leave no cache beside the tools
 
+from findings_model import findings_line, stream
 from mktree import (TOP, announced, block, damaged, flat, least, pack, plain_choice, put, random_block,
                     random_ends, random_kinds, random_texts, with_children)
 from tree_model import (ANY, COUNT, EXAMPLE, KINDS, MODULE_ITEMS, NUMBER, PROGRAM, answer, answer_by_definition,
-                        sections, stream)
+                        sections)
 
 ROOT = pathlib.Path(__file__).resolve().parent.parent
 TRIALS = ROOT / "crates" / "stream_trials"
@@ -563,8 +564,8 @@ def damaged_driver():
 
 
 DATA_BLOCKS = [
-    ("driver.tree", lambda: block(driver()), "1 | - | -"),
-    ("module.tree", lambda: block(module()), "0 | - | -"),
+    ("driver.tree", lambda: block(driver()), "1 | b 0:5=0:5 e 41:7,19:4,23:5 r - u - | b - e - r - u -"),
+    ("module.tree", lambda: block(module()), "0 | b - e - r - u - | b - e 5:4,0:4294967295 r - u -"),
     ("damaged.tree", damaged_driver, f"fault 2 layer 2 module 0 place {DAMAGED_ROW}"),
 ]
 
@@ -576,7 +577,7 @@ def write_data():
     DATA.mkdir(exist_ok=True)
     for name, make, line in DATA_BLOCKS:
         data = make()
-        assert answer(data) == line, (name, answer(data))
+        assert findings_line(data) == line, (name, findings_line(data))
         (DATA / name).write_bytes(data)
         print(f"{name}: {len(data)} bytes, {line}")
 
@@ -584,7 +585,7 @@ def write_data():
 def write_trials():
     made = cases()
     data = trial_stream(made)
-    lines = stream(data)
+    lines = list(stream(data, findings_line))
     assert len(lines) == len(made) + 1 and lines[-1] == "short"
     assert len(data) < MOST_STDIN, len(data)
     TRIALS.mkdir(parents=True, exist_ok=True)
@@ -614,7 +615,7 @@ def self_test():
     assert block(("Program", 1, ("Assign", member(b"exports", b"a"), ("Num",)))) == EXAMPLE
     for kind in range(COUNT):
         tree = least(kind) if kind == PROGRAM else program(least(kind))
-        assert answer(block(tree)) in ("0 | - | -", "1 | - | -"), kind
+        assert answer(block(tree)) in ("0", "1"), kind
     assert plain_choice(None) == 0
     made = cases()
     tally = {}
@@ -641,7 +642,7 @@ def main(arguments):
         write_data()
     elif arguments == ["--list"]:
         for number, (section, name, data) in enumerate(cases()):
-            print(f"{number}\t{section}\t{name}\t{answer(data)}")
+            print(f"{number}\t{section}\t{name}\t{findings_line(data)}")
     elif not arguments:
         write_trials()
     else:

@@ -2,14 +2,14 @@
 """A model of the check of a tree block and of the script test, written from docs/TREE.md, docs/TEXT.md,
 docs/FAULTS.md and the script test of docs/FINDINGS.md, without sight of the program.
 
-`answer` gives the line for one block, `stream` the lines for a stream of blocks.
+`answer` gives the line of a refused block, and of a lawful one the script answer, 0 or 1, with which its line begins.
+findings_model.py has the rest of the line.
 
 The rules are written twice. `answer_by_definition` asks of every row what the pages ask of it and goes over all
 pairs of rows. `answer` goes over the rows once with a stack and takes children by their ends; it serves large
 blocks. The self-test and tree_cases.py compare the two.
 
-    tree_model.py findings < STREAM     lines of a stream
-    tree_model.py FILE...               the line of each block file
+    tree_model.py FILE...     the answer for each block file
     tree_model.py --self-test
 """
 import itertools
@@ -254,10 +254,6 @@ def is_script(mark, children):
     return False
 
 
-def found(script):
-    return f"{int(script)} | - | -"
-
-
 # ---------------------------------------------------------------------------------------------------------------
 # Pointwise, by the definitions
 
@@ -296,7 +292,7 @@ def answer_by_definition(block):
         look(DEPTH, lambda row: depth(row) <= DEEPEST)
         look(SHAPE, lambda row: row_fits(row, rows[row][0], rows[row][1], children(row)))
         look(TEXT, lambda row: text_fits(rows[row][0], rows[row][2], rows[row][3], text))
-        return found(is_script(rows[0][1], children(0)))
+        return str(int(is_script(rows[0][1], children(0))))
     except Refused as refused:
         return refused.line
 
@@ -352,29 +348,9 @@ def checked(block):
 def answer(block):
     try:
         rows, _ = checked(block)
-        return found(is_script(rows[0][1], child_kinds(rows, 0)))
+        return str(int(is_script(rows[0][1], child_kinds(rows, 0))))
     except Refused as refused:
         return refused.line
-
-
-# ---------------------------------------------------------------------------------------------------------------
-# The stream
-
-
-def stream(data):
-    """One line a block. A block that is too long is passed over by its announced length; `answer` refuses it."""
-    out = []
-    at = 0
-    while at < len(data):
-        start = at + 4
-        if start > len(data):
-            return out + ["short"]
-        length = int.from_bytes(data[at:start], "little")
-        at = start + length
-        if at > len(data):
-            return out + ["short"]
-        out.append(answer(data[start:at]))
-    return out
 
 
 # ---------------------------------------------------------------------------------------------------------------
@@ -433,10 +409,10 @@ def bare(ends):
 
 
 def test_ends(rng):
-    assert answer(bare([1])) == "0 | - | -"
+    assert answer(bare([1])) == "0"
     assert answer(bare([2])) == "fault 2 layer 2 module 0 place 0"
     assert answer(bare([3, 2, 4])) == "fault 2 layer 2 module 0 place 2"
-    assert answer(bare([257] * 257)) == "0 | - | -"
+    assert answer(bare([257] * 257)) == "0"
     assert answer(bare([258] * 258)) == "fault 3 layer 2 module 0 place 257"
     for count in range(1, 5):
         for ends in itertools.product(range(count + 2), repeat=count):
@@ -447,34 +423,17 @@ def test_ends(rng):
         assert answer(bare(ends)) == answer_by_definition(bare(ends)), ends
 
 
-def test_stream():
-    announced = struct.pack("<I", len(EXAMPLE)) + EXAMPLE
-    one = "1 | - | -"
-    layout = "fault 1 layer 2 module 0 place 0"
-    assert stream(b"") == []
-    assert stream(announced) == [one]
-    assert stream(announced + b"\0\0\0") == [one, "short"]
-    assert stream(announced[:-1]) == ["short"]
-    assert stream(b"\0\0\0\0" + announced) == [layout, one]
-    too_long = struct.pack("<I", MOST_BYTES + 1) + bytes(MOST_BYTES + 1)
-    assert stream(too_long + announced) == [layout, one]
-
-
 def self_test():
     rng = random.Random(1)
     test_table()
     test_texts(rng)
     test_ends(rng)
-    test_stream()
     print("tree_model: self-test passed")
 
 
 def main(arguments):
     if arguments == ["--self-test"]:
         self_test()
-    elif arguments in ([], ["findings"]):
-        for line in stream(sys.stdin.buffer.read()):
-            print(line)
     else:
         for name in arguments:
             print(answer(pathlib.Path(name).read_bytes()))
