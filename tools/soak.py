@@ -71,6 +71,21 @@ def many_rules(rng):
     return block(("Program", mark, *children))
 
 
+def long_lists(rng):
+    """Some thousand names, specifiers, unsafe texts and bindings under one Program, in rising, falling or any order."""
+    count = rng.choice((50, 500, 4000))
+    numbers = [rng.randrange(count) for _ in range(count)] if rng.random() < 0.5 else list(range(count))
+    numbers.sort(reverse=rng.random() < 0.5) if rng.random() < 0.5 else rng.shuffle(numbers)
+    names = [b"%d" % number for number in numbers]
+    required = [("Call", ("Ident", b"require"), ("Str", name)) for name in names]
+    properties = [("Shorthand", name) if rng.random() < 0.7 else ("Setter", ("Ident", name)) for name in names]
+    return block(("Program", 0,
+                  ("VarDecl", *(("Declarator", ("Ident", name), call) for name, call in zip(names, required))),
+                  ("Assign", ("Ident", b"exports"), ("Object", *properties, *(("Spread", call) for call in required))),
+                  ("ExportNamed", *(("NamedSpec", ("Ident", name)) for name in names)),
+                  *(("ExportAll", ("Str", name)) for name in names[:count // 2])))
+
+
 def widest(rng):
     """At the bound of the row number: one row fewer, as many as allowed, or one more, all children of row 0."""
     count = rng.choice((65535, 65536, 65537))
@@ -116,7 +131,7 @@ def make(rng, texts):
     """One block, mostly one close to the rules of the findings."""
     die = rng.random()
     if die < 0.0005:
-        return many_rules(rng)
+        return many_rules(rng) if die < 0.0004 else long_lists(rng)
     if die < 0.60:
         return block(rule_tree(rng))
     if die < 0.75:
