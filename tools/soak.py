@@ -30,6 +30,7 @@ from shrink import expected, shrunk, weight
 from tree_model import MOST_BYTES, ROW_BYTES, answer
 
 CHUNK = 4000
+FEW = 500
 CHUNK_BYTES = 8_000_000
 SHOWN = 10
 SHOWN_BYTES = 4000
@@ -142,17 +143,22 @@ def make(rng, texts):
 
 
 def sizes(rng):
-    """The sizes of the four tables for one run: none given, ample, or mostly too few rows."""
-    die = rng.random()
-    if die < 0.05:
-        return []
-    if die < 0.35:
-        return [str(rng.choice((20, 64, 1000)))] * 4
-    return [str(rng.choice((0, 0, 1, 1, 2, 3, 4, 8, 64))) for _ in range(4)]
+    """The sizes of the four tables for one run: ample, or mostly too few rows."""
+    if rng.random() < 0.4:
+        return [str(rng.choice((20, 64, 200)))] * 4
+    return [str(rng.choice((0, 0, 1, 1, 2, 3, 4, 5, 6, 7, 8, 64))) for _ in range(4)]
+
+
+def commands(rng):
+    """Commands with the number of blocks that each is run on: fewer where the tables are large, as they cost time."""
+    yield ["findings", *sizes(rng)], CHUNK
+    yield ["findings", *sizes(rng)], CHUNK
+    yield ["findings", *sizes(rng)], CHUNK
+    yield rng.choice((["findings"], ["findings", "65536", "1", "65536", "1"], ["answers"], ["answers"])), FEW
 
 
 def chunks(count, seed):
-    """Lists of blocks, `count` blocks in all, each with the number of bytes to cut off its stream and the commands."""
+    """Lists of blocks, `count` blocks in all, each with the number of bytes to cut off its stream, and a generator."""
     rng = random.Random(seed)
     while count > 0:
         texts = [random_text(rng) for _ in range(300)]
@@ -163,8 +169,7 @@ def chunks(count, seed):
             count -= 1
         last = len(blocks[-1])
         cut = rng.randint(1, last + 3) if rng.random() < 0.25 and last <= MOST_BYTES else 0
-        commands = [["findings", *sizes(rng)], ["findings", *sizes(rng)]]
-        yield blocks, cut, commands + ([["answers"]] if rng.random() < 0.5 else [])
+        yield blocks, cut, rng
 
 
 # ---------------------------------------------------------------------------------------------------------------
@@ -249,10 +254,10 @@ class Soak:
 
 def soak(program, count, seed, most_shown=SHOWN):
     soaked, start = Soak(program, most_shown), time.time()
-    for blocks, cut, commands in chunks(count, seed):
+    for blocks, cut, rng in chunks(count, seed):
         opened = [Opened(data) for data in blocks]
-        for command in commands:
-            soaked.command(command, blocks, opened, cut)
+        for command, most in commands(rng):
+            soaked.command(command, blocks[:most], opened[:most], cut if most >= len(blocks) else 0)
     print(f"{count} blocks, {soaked.compared} lines, {soaked.wrong} differ, {time.time() - start:.0f} seconds")
     print(", ".join(f"{name}: {number}" for name, number in sorted(soaked.tally.items())))
     return soaked
