@@ -78,8 +78,9 @@ def read_answer(lines, name):
         if match is None or match.group(1) in answer:
             raise NotACase(f"{name}: {line}")
         answer[match.group(1)] = match.group(2) or ""
-    if not answer:
-        raise NotACase(f"{name}: no answer")
+    told = set(answer) - {"sizes"}
+    if not told or "nothing" in told and len(told) > 1:
+        raise NotACase(f"{name}: no answer, or two")
     return answer
 
 
@@ -126,6 +127,8 @@ def read_loosely(data):
 
 def items(words):
     """The texts of a list with their numbers: None where one place is enough."""
+    if ITEM.sub("", words).strip(" ="):
+        raise NotACase(f"{words} is no list")
     for word, number in ITEM.findall(words):
         if word == "(default)":
             yield None, None
