@@ -2,39 +2,34 @@
 use Rattle.std.proofs.Common.{◌≡◌, ℕ, ◌+◌, ◌≤◌, ◌<◌, Bool, true, false, cond, List, ◌++◌, length, length-append, append_assoc, append-nil, nat_le, refl, sym, ap, ◌∙◌, subst, arith, true≢false}
 use Rattle.std.proofs.lemmas.Bool.{leb-false}
 use Rattle.std.specs.Prelude.{Option, Some, None, Result, Ok, Err, IfSome, OnOk, IsErrAnd}
+use Rattle.std.specs.declared.io.Error.{Error}
 use Rattle.std.specs.Io.KnownBytes.{Appends, Consumes, IsAtEnd}
 use Rattle.std.proofs.KnownBytes.{Appends-trans, Consumes-trans}
 use Rattle.text.specs.Number.{le32}
-use Rattle.std.specs.Fmt.{◌++?◌}
-use Rattle.fault.specs.Line.{line_shown, line_text}
-use Rattle.fault.specs.declared.Fault.{Fault}
-use Rattle.answers.specs.Answers.{AnswerOf, answer_line, found_line}
-use Rattle.answers.specs.Stream.{WritesLines, CutStream, EndsAfter, LinesOf, NextLength, NextLine, Takes, line_end, sized}
+use Rattle.answers.specs.Answers.{WritesLine, line_end}
+use Rattle.answers.specs.Stream.{WritesLines, CutStream, EndsAfter, LinesOf, NextAnswered, NextLength, Takes, sized}
 use Rattle.answers.specs.Stream.CutStream.{in_length, in_block}
 use Rattle.answers.specs.Stream.LinesOf.{block}
-use Rattle.fault.specs.declared.Line.{Line}
-use Rattle.answers.specs.declared.answer.Found.{Found}
-use Rattle.answers.specs.declared.stream.CutShort.{CutShort as CutShortRecord}
 use Rattle.answers.specs.declared.stream.Length.{Length}
 use Rattle.answers.specs.declared.stream.Length.TheVariants.{Fits, TooLong}
-use Rattle.answers.specs.declared.stream.ReadError.{ReadError}
-use Rattle.answers.specs.declared.stream.ReadError.TheVariants.{CutShort, Io}
+use Rattle.answers.specs.declared.stream.StreamError.{StreamError}
+use Rattle.answers.specs.declared.stream.StreamError.TheVariants.{CutShort, Io}
 
 longer : (xs ys : List ℕ) (n count : ℕ) → length ys < n → length xs + n ≤ count → length (xs ++ ys) < count
 longer xs ys n count short room = let both = length-append xs ys in omega (arith, both)
 
 -- bytes were taken, and then a reader ended before so many more
-ended : (a b c : Option (List ℕ)) (bs : List ℕ) (n count : ℕ) (e : ReadError) → Consumes a b bs → length bs + n ≤ count → Takes n b c (Err e) → Takes count a c (Err e)
+ended : (a b c : Option (List ℕ)) (bs : List ℕ) (n count : ℕ) (e : StreamError) → Consumes a b bs → length bs + n ≤ count → Takes n b c (Err e) → Takes count a c (Err e)
 ended a b c bs n count (CutShort k) first room (part, short, (gave, end)) = (bs ++ part, longer bs part n count short room, (Consumes-trans a b c bs part first gave, end))
 ended a b c bs n count (Io k) first room u = tt
 
-pub Takes-ended : (a b c : Option (List ℕ)) (bs : List ℕ) (n count : ℕ) (e : ReadError) (r : Result (Unit {0}) ReadError) → Consumes a b bs → length bs + n ≤ count
+pub Takes-ended : (a b c : Option (List ℕ)) (bs : List ℕ) (n count : ℕ) (e : StreamError) (r : Result (Unit {0}) StreamError) → Consumes a b bs → length bs + n ≤ count
     → Takes n b c (Err e) → IsErrAnd r (λ f. f ≡ e) → Takes count a c r
 Takes-ended a b c bs n count e (Ok u) first room took is = absurd is
 Takes-ended a b c bs n count e (Err f) first room took is = subst (λ x. Takes count a c (Err x)) (sym is) (ended a b c bs n count e first room took)
 
 -- bytes were taken, and then so many more as make the count full
-pub Takes-after : (a b c : Option (List ℕ)) (bs : List ℕ) (n count : ℕ) (r : Result (Unit {0}) ReadError) → Consumes a b bs → length bs + n ≡ count → Takes n b c r → Takes count a c r
+pub Takes-after : (a b c : Option (List ℕ)) (bs : List ℕ) (n count : ℕ) (r : Result (Unit {0}) StreamError) → Consumes a b bs → length bs + n ≡ count → Takes n b c r → Takes count a c r
 Takes-after a b c bs n count (Ok u) first full (more, long, gave) =
     (bs ++ more, length-append bs more ∙ ap (λ k. length bs + k) long ∙ full, Consumes-trans a b c bs more first gave)
 Takes-after a b c bs n count (Err e) first full took = ended a b c bs n count e first (omega (arith, full)) took
@@ -54,39 +49,6 @@ sized-number n room = elim (nat_le n room) as (λ v. number_of (cond v (Fits n) 
 number_of_sized : (n room : ℕ) (next : Length) → next ≡ sized n room → number_of next ≡ n
 number_of_sized n room next e = ap number_of e ∙ sized-number n room
 
--- a reader that ended before the next block's length, or inside it
-pub NextLine-ended : (room : ℕ) (a b : Option (List ℕ)) (e : ReadError) (r : Result (Option (Line Found)) ReadError) → NextLength room a b (Err e)
-    → IsErrAnd r (λ f. f ≡ e) → NextLine a b r
-NextLine-ended room a b e (Ok u) took is = absurd is
-NextLine-ended room a b (CutShort k) (Err f) (head, some, short, end) is = subst (λ x. NextLine a b (Err x)) (sym is) (head, in_length head some short, end)
-NextLine-ended room a b (Io k) (Err f) u is = subst (λ x. NextLine a b (Err x)) (sym is) tt
-
--- the lines so far, and those of what a reader ended with
-pub WritesLines-ended : (a b c o p q : Option (List ℕ)) (taken written more chunk : List ℕ) (P : List ℕ → Type 0) → Consumes a b taken → Appends o p written
-    → ((rest lines : List ℕ) → LinesOf rest lines → LinesOf (taken ++ rest) (written ++ lines)) → EndsAfter b c more → LinesOf more chunk → Appends p q chunk
-    → IfSome a (λ xs. P xs → WritesLines o q xs)
-WritesLines-ended None b c o p q taken written more chunk P gave put so end lines last = tt
-WritesLines-ended (Some x) None c o p q taken written more chunk P gave put so end lines last = absurd gave
-WritesLines-ended (Some x) (Some y) None o p q taken written more chunk P gave put so end lines last = absurd end.0
-WritesLines-ended (Some x) (Some y) (Some z) o p q taken written more chunk P gave put so end lines last =
-    let left : y ≡ more = end.0 ∙ ap (λ l. more ++ l) end.1 ∙ append-nil more in
-    let whole : x ≡ taken ++ more = gave ∙ ap (λ l. taken ++ l) left in
-    λ _. (written ++ chunk, subst (λ l. LinesOf l (written ++ chunk)) (sym whole) (so more chunk lines), Appends-trans o p q written chunk put last)
-
--- the text that is written of a line is the line's
-pub line_written : (answer : Result Found Fault) (a b : Option (List ℕ)) → IfSome (line_text (λ x. Some (found_line x)) answer ++? Some line_end) (Appends a b) → Appends a b (answer_line answer ++ line_end)
-line_written answer a b put = subst (λ t. IfSome (t ++? Some line_end) (Appends a b)) (line_shown found_line answer) put
-
--- the lines so far, and one more
-pub lines_onward : (taken written head blk : List ℕ) (line : Line Found) → ((rest lines : List ℕ) → LinesOf rest lines → LinesOf (taken ++ rest) (written ++ lines))
-    → length head ≡ 4 → length blk ≡ le32 head 0 → AnswerOf 0 blk line.0 → (rest lines : List ℕ) → LinesOf rest lines
-    → LinesOf ((taken ++ (head ++ blk)) ++ rest) ((written ++ (answer_line line.0 ++ line_end)) ++ lines)
-lines_onward taken written head blk line so four long answers rest lines h =
-    let chunk = answer_line line.0 ++ line_end in
-    let all = so ((head ++ blk) ++ rest) (chunk ++ lines) (block head blk rest lines line.0 four long answers h) in
-    subst (λ l. LinesOf ((taken ++ (head ++ blk)) ++ rest) l) (sym (append_assoc written chunk lines))
-    (subst (λ l. LinesOf l (written ++ (chunk ++ lines))) (sym (append_assoc taken (head ++ blk) rest)) all)
-
 -- a block that is too long has no room
 above : (n room k : ℕ) (v : Bool) → nat_le n room ≡ v → TooLong k ≡ cond v (Fits n) (TooLong n) → room < n
 above n room k true le e = absurd (true≢false (ap is_long e))
@@ -95,45 +57,66 @@ above n room k false le e = leb-false n room le
 too_long_above : (n room k : ℕ) → TooLong k ≡ sized n room → room < k
 too_long_above n room k e = subst (λ m. room < m) (sym (number_of_sized n room (TooLong k) e)) (above n room k (nat_le n room) refl e)
 
--- the length that a reader gave is this one, of its two kinds
-module _ (room : ℕ) (a b : Option (List ℕ)) {o : Option Length} {next given : Length} (some : o ≡ Some next) (is : next ≡ given) (took : NextLength room a b (Ok o)) where
-  abbrev Follows : Type 0
-  Follows = (head : List ℕ) × (length head ≡ 4) × (given ≡ sized (le32 head 0) room) × Consumes a b head
+module _ (Answers : List ℕ → List ℕ → Type 0) where
+  -- a reader that ended before the next block's length, or inside it
+  pub answered_ended : (room : ℕ) (a b o : Option (List ℕ)) (e : StreamError) (r : Result Bool StreamError) → NextLength room a b (Err e)
+      → IsErrAnd r (λ f. f ≡ e) → NextAnswered Answers a b o o r
+  answered_ended room a b o e (Ok u) took is = absurd is
+  answered_ended room a b o (CutShort k) (Err f) (head, some, short, end) is = subst (λ x. NextAnswered Answers a b o o (Err x)) (sym is) (head, in_length head some short, end, refl)
+  answered_ended room a b o (Io k) (Err f) u is = subst (λ x. NextAnswered Answers a b o o (Err x)) (sym is) tt
 
-  follows : Follows
-  follows = let (head, four, of, gave) = subst (λ x. NextLength room a b (Ok x)) some took in (head, four, sym is ∙ of, gave)
+  -- the reading or the writing failed
+  pub answered_failed : (a b o p : Option (List ℕ)) (e : Error) (r : Result Bool StreamError) → IsErrAnd r (λ f. f ≡ Io e) → NextAnswered Answers a b o p r
+  answered_failed a b o p e (Ok u) is = absurd is
+  answered_failed a b o p e (Err f) is = subst (λ x. NextAnswered Answers a b o p (Err x)) (sym is) tt
 
-  -- it ended inside the block
-  pub NextLine-cut : (c : Option (List ℕ)) (n : ℕ) (e : ReadError) (r : Result (Option (Line Found)) ReadError) → n ≡ number_of given → Takes n b c (Err e) → IsErrAnd r (λ f. f ≡ e) → NextLine a c r
-  NextLine-cut c n e (Ok u) long taken error = absurd error
-  NextLine-cut c n (CutShort k) (Err f) long (part, short, (gave, end)) error =
-      let (head, four, of, first) = follows in
-      let number = long ∙ number_of_sized _ _ _ of in
-      subst (λ x. NextLine a c (Err x)) (sym error) (head ++ part, in_block head part four (subst (λ m. length part < m) number short), (Consumes-trans a b c head part first gave, end))
-  NextLine-cut c n (Io k) (Err f) long u error = subst (λ x. NextLine a c (Err x)) (sym error) tt
+  -- the length that a reader gave is this one, of its two kinds
+  module _ (room : ℕ) (a b : Option (List ℕ)) {next : Option Length} {length_of given : Length} (some : next ≡ Some length_of) (is : length_of ≡ given) (took : NextLength room a b (Ok next)) where
+    abbrev Follows : Type 0
+    Follows = (head : List ℕ) × (length head ≡ 4) × (given ≡ sized (le32 head 0) room) × Consumes a b head
 
-  -- the block follows, which has this answer
-  pub NextLine-whole : (c : Option (List ℕ)) (blk : List ℕ) (answer : Result Found Fault) → length blk ≡ number_of given → AnswerOf 0 blk answer → Consumes b c blk → NextLine a c (Ok (Some (record { 0 = answer })))
-  NextLine-whole c blk answer long answers gave =
-      let (head, four, of, first) = follows in
-      (head, blk, four, long ∙ number_of_sized _ _ _ of, answers, Consumes-trans a b c head blk first gave)
+    follows : Follows
+    follows = let (head, four, of, gave) = subst (λ x. NextLength room a b (Ok x)) some took in (head, four, sym is ∙ of, gave)
 
--- a block that is too long is above the room
-pub next_above : (room : ℕ) (a b : Option (List ℕ)) {o : Option Length} {next : Length} (k : ℕ) → o ≡ Some next → next ≡ TooLong k → NextLength room a b (Ok o) → room < k
-next_above room a b k some is took = let (head, four, of, gave) = follows room a b some is took in too_long_above _ _ k of
+    -- it ended inside the block
+    pub answered_cut : (c o : Option (List ℕ)) (n : ℕ) (e : StreamError) (r : Result Bool StreamError) → n ≡ number_of given → Takes n b c (Err e) → IsErrAnd r (λ f. f ≡ e) → NextAnswered Answers a c o o r
+    answered_cut c o n e (Ok u) long taken error = absurd error
+    answered_cut c o n (CutShort k) (Err f) long (part, short, (gave, end)) error =
+        let (head, four, of, first) = follows in
+        let number = long ∙ number_of_sized _ _ _ of in
+        subst (λ x. NextAnswered Answers a c o o (Err x)) (sym error) (head ++ part, in_block head part four (subst (λ m. length part < m) number short), (Consumes-trans a b c head part first gave, end), refl)
+    answered_cut c o n (Io k) (Err f) long u error = subst (λ x. NextAnswered Answers a c o o (Err x)) (sym error) tt
 
--- the line that follows in a stream
-abbrev pub FollowsLine : Option (List ℕ) → Option (List ℕ) → Line Found → Type 0
-FollowsLine a b line = (head blk : List ℕ) × (length head ≡ 4) × (length blk ≡ le32 head 0) × AnswerOf 0 blk line.0 × Consumes a b (head ++ blk)
+    -- the block follows, and its line was written
+    pub answered_whole : (c o p : Option (List ℕ)) (blk : List ℕ) → length blk ≡ number_of given → Consumes b c blk → WritesLine (Answers blk) o p → NextAnswered Answers a c o p (Ok true)
+    answered_whole c o p blk long gave writes =
+        let (head, four, of, first) = follows in
+        (head, blk, four, long ∙ number_of_sized _ _ _ of, Consumes-trans a b c head blk first gave, writes)
 
-pub next_line_some : (a b : Option (List ℕ)) (o : Option (Line Found)) (line : Line Found) → o ≡ Some line → NextLine a b (Ok o) → FollowsLine a b line
-next_line_some a b o line e took = subst (λ x. NextLine a b (Ok x)) e took
+    -- a block that is too long is above the room
+    pub next_above : (k : ℕ) → given ≡ TooLong k → room < k
+    next_above k e = let (head, four, of, gave) = follows in too_long_above _ _ k (sym e ∙ of)
 
-pub next_line_none : (a b : Option (List ℕ)) (o : Option (Line Found)) → o ≡ None → NextLine a b (Ok o) → IsAtEnd a
-next_line_none a b o e took = subst (λ x. NextLine a b (Ok x)) e took
+  -- the lines so far, and those of what a reader ended with
+  pub lines_ended : (a b c o p q : Option (List ℕ)) (taken written more chunk : List ℕ) (P : List ℕ → Type 0) → Consumes a b taken → Appends o p written
+      → ((rest lines : List ℕ) → LinesOf Answers rest lines → LinesOf Answers (taken ++ rest) (written ++ lines)) → EndsAfter b c more → LinesOf Answers more chunk → Appends p q chunk
+      → IfSome a (λ xs. P xs → WritesLines Answers o q xs)
+  lines_ended None b c o p q taken written more chunk P gave put so end lines last = tt
+  lines_ended (Some x) None c o p q taken written more chunk P gave put so end lines last = absurd gave
+  lines_ended (Some x) (Some y) None o p q taken written more chunk P gave put so end lines last = absurd end.0
+  lines_ended (Some x) (Some y) (Some z) o p q taken written more chunk P gave put so end lines last =
+      let left : y ≡ more = end.0 ∙ ap (λ l. more ++ l) end.1 ∙ append-nil more in
+      let whole : x ≡ taken ++ more = gave ∙ ap (λ l. taken ++ l) left in
+      λ _. (written ++ chunk, subst (λ l. LinesOf Answers l (written ++ chunk)) (sym whole) (so more chunk lines), Appends-trans o p q written chunk put last)
 
-pub next_line_cut : (a b : Option (List ℕ)) (e : ReadError) (k : CutShortRecord) → e ≡ CutShort k → NextLine a b (Err e) → (xs : List ℕ) × CutStream xs × EndsAfter a b xs
-next_line_cut a b e k is took = subst (λ x. NextLine a b (Err x)) is took
+  -- the lines so far, and one more
+  pub lines_onward : (taken written head blk line : List ℕ) → ((rest lines : List ℕ) → LinesOf Answers rest lines → LinesOf Answers (taken ++ rest) (written ++ lines)) → length head ≡ 4
+      → length blk ≡ le32 head 0 → Answers blk line → (rest lines : List ℕ) → LinesOf Answers rest lines → LinesOf Answers ((taken ++ (head ++ blk)) ++ rest) ((written ++ (line ++ line_end)) ++ lines)
+  lines_onward taken written head blk line so four long answers rest lines h =
+      let chunk = line ++ line_end in
+      let all = so ((head ++ blk) ++ rest) (chunk ++ lines) (block head blk rest line lines four long answers h) in
+      subst (λ l. LinesOf Answers ((taken ++ (head ++ blk)) ++ rest) l) (sym (append_assoc written chunk lines))
+      (subst (λ l. LinesOf Answers l (written ++ (chunk ++ lines))) (sym (append_assoc taken (head ++ blk) rest)) all)
 
 pub on_ok : {A E : Type 0} (r : Result A E) (P Q : Type 0) → (P → Q) → OnOk r P → OnOk r Q
 on_ok (Ok x) P Q f p = f p

@@ -1,3 +1,4 @@
 pub mod Answers
+pub mod Memory
 pub mod Report
 pub mod Stream

@@ -1,16 +1,15 @@
 -- A stream of blocks, each after its length: what is read of it, and the lines that it gets.
-use Rattle.std.specs.Prelude.{◌≡◌, ℕ, ◌-◌, ◌^◌, ◌≤◌, ◌<◌, cond, List, [], ◌++◌, length, ◌==◌, nat_le, nat_lt, Option, Some, None, Result, Ok, Err, IfSome, codes}
+use Rattle.std.specs.Prelude.{◌≡◌, ℕ, ◌-◌, ◌^◌, ◌≤◌, ◌<◌, Bool, true, false, cond, List, [], ◌++◌, length, ◌==◌, nat_le, nat_lt, Option, Some, None, Result, Ok, Err, IfSome, codes}
 use Rattle.std.specs.Io.KnownBytes.{Appends, Consumes, IsAtEnd}
-use Rattle.fault.specs.declared.Fault.{Fault}
-use Rattle.fault.specs.declared.Line.{Line}
+use Rattle.findings.specs.Tables.{Room, SameLenders, room_of}
 use Rattle.text.specs.Number.{le32}
-use Rattle.answers.specs.Answers.{AnswerOf, answer_line}
-use Rattle.answers.specs.declared.answer.Found.{Found}
+use Rattle.answers.specs.Answers.{WritesLine, line_end}
+use Rattle.answers.specs.declared.answer.BlockLines.{BlockLines}
 use Rattle.answers.specs.declared.stream.CutShort.{CutShort}
 use Rattle.answers.specs.declared.stream.Length.{Length}
 use Rattle.answers.specs.declared.stream.Length.TheVariants.{Fits, TooLong}
-use Rattle.answers.specs.declared.stream.ReadError.{ReadError}
-use Rattle.answers.specs.declared.stream.ReadError.TheVariants.{CutShort as Cut, Io}
+use Rattle.answers.specs.declared.stream.StreamError.{StreamError}
+use Rattle.answers.specs.declared.stream.StreamError.TheVariants.{CutShort as Cut, Io}
 
 -- a block of so many bytes fits into the room, or is too long
 abbrev pub sized : ℕ → ℕ → Length
@@ -30,51 +29,57 @@ Within room (TooLong n) = Unit {0}
 abbrev pub kept_of : ℕ → ℕ → Result (Unit {0}) CutShort
 kept_of given count = cond (nat_lt given count) (Err (record {})) (Ok tt)
 
--- what ends a line
-abbrev pub line_end : List ℕ
-line_end = codes "\n"
-
 -- a stream that ends inside a length, or inside a block
 pub data CutStream : List ℕ → Type 0 where
   in_length : (head : List ℕ) → 0 < length head → length head < 4 → CutStream head
   in_block : (head part : List ℕ) → length head ≡ 4 → length part < le32 head 0 → CutStream (head ++ part)
 
--- the lines that a stream gets: each block its answer's, and a stream that is cut short `short` in the end
-pub data LinesOf : List ℕ → List ℕ → Type 0 where
-  none : LinesOf [] []
-  cut : (xs : List ℕ) → CutStream xs → LinesOf xs (codes "short" ++ line_end)
-  block : (head block rest lines : List ℕ) (answer : Result Found Fault) → length head ≡ 4 → length block ≡ le32 head 0 → AnswerOf 0 block answer →
-      LinesOf rest lines → LinesOf ((head ++ block) ++ rest) ((answer_line answer ++ line_end) ++ lines)
+-- the lines that a stream gets, where each block may get the lines of a relation: one for each block, and for a stream that is cut
+-- short `short` in the end
+pub data LinesOf (Answers : List ℕ → List ℕ → Type 0) : List ℕ → List ℕ → Type 0 where
+  none : LinesOf Answers [] []
+  cut : (xs : List ℕ) → CutStream xs → LinesOf Answers xs (codes "short" ++ line_end)
+  block : (head block rest line lines : List ℕ) → length head ≡ 4 → length block ≡ le32 head 0 → Answers block line →
+      LinesOf Answers rest lines → LinesOf Answers ((head ++ block) ++ rest) ((line ++ line_end) ++ lines)
 
 -- a writer was given the lines of a stream
-abbrev pub WritesLines : Option (List ℕ) → Option (List ℕ) → List ℕ → Type 0
-WritesLines old new xs = (lines : List ℕ) × LinesOf xs lines × Appends old new lines
+abbrev pub WritesLines : (List ℕ → List ℕ → Type 0) → Option (List ℕ) → Option (List ℕ) → List ℕ → Type 0
+WritesLines Answers old new xs = (lines : List ℕ) × LinesOf Answers xs lines × Appends old new lines
 
 -- a writer was given the lines of all that a reader had left, where that is known and of fewer than 2 ^ 64 - 1 bytes
-abbrev pub AnswersAll : Option (List ℕ) → Option (List ℕ) → Option (List ℕ) → Type 0
-AnswersAll input old new = IfSome input (λ xs. length xs < 2 ^ 64 - 1 → WritesLines old new xs)
+abbrev pub AnswersAll : (List ℕ → List ℕ → Type 0) → Option (List ℕ) → Option (List ℕ) → Option (List ℕ) → Type 0
+AnswersAll Answers input old new = IfSome input (λ xs. length xs < 2 ^ 64 - 1 → WritesLines Answers old new xs)
+
+-- the lines are of the same kind, and the tables have the rows that were lent, as many as before
+pub record SameLines (s t : BlockLines) : Type 0 where
+  pub kind : t.kind ≡ s.kind
+  pub cjs : SameLenders s.cjs t.cjs
+  pub es : SameLenders s.es t.es
+  pub cjs_room : room_of t.cjs ≡ room_of s.cjs
+  pub es_room : room_of t.es ≡ room_of s.es
 
 -- a reader ended after these bytes
 abbrev pub EndsAfter : Option (List ℕ) → Option (List ℕ) → List ℕ → Type 0
 EndsAfter old new bs = Consumes old new bs × IsAtEnd new
 
 -- a reader gave so many bytes, or ended before
-abbrev pub Takes : ℕ → Option (List ℕ) → Option (List ℕ) → Result (Unit {0}) ReadError → Type 0
+abbrev pub Takes : ℕ → Option (List ℕ) → Option (List ℕ) → Result (Unit {0}) StreamError → Type 0
 Takes count old new (Ok u) = (bs : List ℕ) × (length bs ≡ count) × Consumes old new bs
 Takes count old new (Err (Cut c)) = (bs : List ℕ) × (length bs < count) × EndsAfter old new bs
 Takes count old new (Err (Io e)) = Unit {0}
 
 -- a reader gave the next length, or ended before it or inside it
-abbrev pub NextLength : ℕ → Option (List ℕ) → Option (List ℕ) → Result (Option Length) ReadError → Type 0
+abbrev pub NextLength : ℕ → Option (List ℕ) → Option (List ℕ) → Result (Option Length) StreamError → Type 0
 NextLength room old new (Ok None) = IsAtEnd old
 NextLength room old new (Ok (Some next)) = (head : List ℕ) × (length head ≡ 4) × (next ≡ sized (le32 head 0) room) × Consumes old new head
 NextLength room old new (Err (Cut c)) = (head : List ℕ) × (0 < length head) × (length head < 4) × EndsAfter old new head
 NextLength room old new (Err (Io e)) = Unit {0}
 
--- a reader gave the next block, which has this line, or ended before it or inside it
-abbrev pub NextLine : Option (List ℕ) → Option (List ℕ) → Result (Option (Line Found)) ReadError → Type 0
-NextLine old new (Ok None) = IsAtEnd old
-NextLine old new (Ok (Some line)) =
-    (head block : List ℕ) × (length head ≡ 4) × (length block ≡ le32 head 0) × AnswerOf 0 block line.0 × Consumes old new (head ++ block)
-NextLine old new (Err (Cut c)) = (xs : List ℕ) × CutStream xs × EndsAfter old new xs
-NextLine old new (Err (Io e)) = Unit {0}
+-- a reader gave the next block, and a writer was given its line; or the reader ended before the block or inside it, and the writer
+-- was given nothing
+abbrev pub NextAnswered : (List ℕ → List ℕ → Type 0) → Option (List ℕ) → Option (List ℕ) → Option (List ℕ) → Option (List ℕ) → Result Bool StreamError → Type 0
+NextAnswered Answers old new before after (Ok true) =
+    (head block : List ℕ) × (length head ≡ 4) × (length block ≡ le32 head 0) × Consumes old new (head ++ block) × WritesLine (Answers block) before after
+NextAnswered Answers old new before after (Ok false) = IsAtEnd old × (after ≡ before)
+NextAnswered Answers old new before after (Err (Cut c)) = (xs : List ℕ) × CutStream xs × EndsAfter old new xs × (after ≡ before)
+NextAnswered Answers old new before after (Err (Io e)) = Unit {0}

@@ -1,42 +1,45 @@
-//! The answer for one block.
-ghost use Rattle.std.specs.Prelude.{ℕ, ◌<◌, List, length, Some, Err};
-ghost use Rattle.answers.specs.Answers.{AnswerOf, found_line};
+//! The lines that the blocks of a stream get, and the tables in which their analyses work.
+ghost use Rattle.std.specs.Prelude.{◌≡◌, OnOk};
+ghost use Rattle.answers.specs.Answers.{TablesAfter, WritesLine, lines_by};
 
-use fault::Fault;
-use findings::parsed_source::ProgramRef;
-use std::fmt;
-use tree::{LONGEST_BLOCK, Tree, TreeFault};
+use block_lines::{Line, analyse, answers_line, findings_line};
+use findings::FindingsTables;
+use std::io;
+use std::io::Write;
 
-/// What was found in the tree of a lawful block.
+/// Which lines the blocks of a stream get: those of `findings`, or those of `answers`.
 #[derive(Clone, Copy, PartialEq, Eq, Debug)]
-pub struct Found {
-    pub is_script: bool,
+pub enum LineKind {
+    Findings,
+    Answers,
 }
 
-/// The answer for a block of a module: what was found in its tree, or its refusal.
-pub fn answer_for(module: u32, block: &[u8]) -> Result<Found, Fault>
-    ensures { AnswerOf «module» block.now result }
-{
-    let tree = Tree::check(module, block)?;
-    Ok(Found {
-        is_script: ProgramRef::new(&tree).compute_is_script(),
-    })
+/// How the blocks of a stream are answered: the lines that they get, and tables for each of the two analyses, which may
+/// hold anything before.
+#[derive(Drop)]
+pub struct BlockLines<'t> {
+    pub kind: LineKind,
+    pub cjs: FindingsTables<'t>,
+    pub es: FindingsTables<'t>,
 }
 
-/// The refusal of a block of more than `LONGEST_BLOCK` bytes, whatever they are.
-pub fn answer_too_long(module: u32) -> Fault
-    ensures { (block : List ℕ) → LONGEST_BLOCK < length block → AnswerOf «module» block (Err result) }
-{
-    // The same call as in `block_lines`: callers of each crate are promised it under this name.
-    Fault::from(TreeFault::too_long(module))
-}
-
-/// The script answer, and a dash for each list that is not made yet.
-impl fmt::Display for Found {
-    ghost output = { λ x. Some (found_line x) };
-
-    #[tactic(auto, using(fault::proofs::Shown::digit_shown))]
-    fn fmt<W: fmt::Write>(&self, f: &mut fmt::Formatter<W>) -> fmt::Result {
-        write!(f, "{} | - | -", u8::from(self.is_script))
+impl BlockLines<'_> {
+    /// Writes the line for a block.
+    pub fn write_line<W: Write>(&mut self, block: &[u8], output: &mut W) -> io::Result<()>
+        ensures line { OnOk result (WritesLine (lines_by self.old block.now) (W.contents output.old) (W.contents output.new)) }
+        ensures kind { self.new.kind ≡ self.old.kind }
+        ensures tables { TablesAfter block.now self.old.cjs self.old.es self.new.cjs self.new.es }
+    {
+        let found = analyse(0, block, &mut self.cjs, &mut self.es);
+        match self.kind {
+            LineKind::Findings => {
+                let line = Line(findings_line(found, &self.cjs, &self.es));
+                writeln!(output, "{line}")
+            }
+            LineKind::Answers => {
+                let line = Line(answers_line(found, &self.cjs, &self.es));
+                writeln!(output, "{line}")
+            }
+        }
     }
 }

@@ -1,12 +1,13 @@
-//! One line for each tree block: what the program answers, from a block's bytes to the text of the line.
+//! What the program prints: the lines of a stream of tree blocks, and what a block is in words for people.
 #![tactic(auto)]
 
 mod answer;
+mod memory;
 mod report;
 mod stream;
 
-pub use answer::{Found, answer_for, answer_too_long};
-pub use fault::Line;
+pub use answer::{BlockLines, LineKind};
+pub use memory::Sizes;
 pub use report::{Report, ReportText, report_for};
 pub use stream::{CutShort, Length, announced, answer_stream, answer_stream_in};
 pub use tree::LONGEST_BLOCK;

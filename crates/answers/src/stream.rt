@@ -1,11 +1,15 @@
 //! Streams: block after block, each announced by its length in four bytes, and each answered by a line.
-ghost use Rattle.std.specs.Prelude.{◌≡◌, ◌≤◌, ◌<◌, length, take, IfOk, IfSome, OnOk, Some, codes};
+ghost use Rattle.std.specs.Prelude.{◌≡◌, ◌≤◌, ◌<◌, ℕ, List, length, take, IfOk, IfSome, OnOk, Some, codes};
 ghost use Rattle.std.specs.Io.KnownBytes.{Consumes, IsAtEnd};
-ghost use Rattle.answers.specs.Stream.{AnswersAll, NextLength, NextLine, Takes, Within, announced_by, kept_of, sized};
-ghost use Rattle.answers.specs.declared.stream.ReadError.TheVariants.{CutShort, Io};
+ghost use Rattle.answers.specs.Answers.{LineFor, WritesLine, lines_by};
+ghost use Rattle.answers.specs.Memory.{size_room};
+ghost use Rattle.answers.specs.Stream.{AnswersAll, NextAnswered, NextLength, SameLines, Takes, Within, announced_by, kept_of, sized};
+ghost use Rattle.answers.specs.declared.stream.StreamError.TheVariants.{CutShort, Io};
+ghost use Rattle.findings.specs.Tables.{Room};
 
-use crate::answer::{Found, answer_for, answer_too_long};
-use fault::Line;
+use crate::answer::{BlockLines, LineKind};
+use crate::memory::{Sizes, TableMemory};
+use block_lines::refusal_of_too_long;
 use std::alloc::Global;
 use std::error::Error;
 use std::io::{Read, Write};
@@ -25,30 +29,30 @@ pub enum Length {
 #[derive(Clone, Copy, PartialEq, Eq, Debug)]
 pub struct CutShort;
 
-/// Why the next block of a stream is not to be had.
+/// Why a stream is answered no further.
 // Both `From` by hand: one that `thiserror` derives has no `from_gives`, and the clauses below name the error that a
 // `?` makes.
 #[derive(Debug, Drop)]
-enum ReadError {
+enum StreamError {
     CutShort(CutShort),
     Io(io::Error),
 }
 
 /// The stream ended too early.
-impl From<CutShort> for ReadError {
+impl From<CutShort> for StreamError {
     ghost from_gives = { λ cut error. error ≡ CutShort cut };
 
     fn from(cut: CutShort) -> Self {
-        ReadError::CutShort(cut)
+        StreamError::CutShort(cut)
     }
 }
 
-/// The input failed.
-impl From<io::Error> for ReadError {
+/// The input or the output failed.
+impl From<io::Error> for StreamError {
     ghost from_gives = { λ failure error. error ≡ Io failure };
 
     fn from(error: io::Error) -> Self {
-        ReadError::Io(error)
+        StreamError::Io(error)
     }
 }
 
@@ -120,7 +124,7 @@ fn fill<R: Read>(input: &mut R, buffer: &mut [u8]) -> io::Result<usize>
 }
 
 /// Fills the whole buffer from the input.
-fn fill_whole<R: Read>(input: &mut R, buffer: &mut [u8]) -> Result<(), ReadError>
+fn fill_whole<R: Read>(input: &mut R, buffer: &mut [u8]) -> Result<(), StreamError>
     ensures takes { Takes (length buffer.old) (R.remaining input.old) (R.remaining input.new) result }
     ensures given { OnOk result (Consumes (R.remaining input.old) (R.remaining input.new) buffer.new) }
 {
@@ -136,7 +140,7 @@ fn pass_over<R: Read>(
     input: &mut R,
     buffer: &mut [u8; LONGEST_BLOCK],
     count: usize,
-) -> Result<(), ReadError>
+) -> Result<(), StreamError>
     ensures { Takes count (R.remaining input.old) (R.remaining input.new) result }
 {
     for _ in 0..count / LONGEST_BLOCK {
@@ -146,7 +150,7 @@ fn pass_over<R: Read>(
 }
 
 /// The length of the next block, if one follows.
-fn next_length<R: Read>(input: &mut R, room: usize) -> Result<Option<Length>, ReadError>
+fn next_length<R: Read>(input: &mut R, room: usize) -> Result<Option<Length>, StreamError>
     ensures length { NextLength room (R.remaining input.old) (R.remaining input.new) result }
     ensures within { IfOk result (λ next. IfSome next (Within room)) }
 {
@@ -155,61 +159,84 @@ fn next_length<R: Read>(input: &mut R, room: usize) -> Result<Option<Length>, Re
     Ok(announced(&head[..given], room)?)
 }
 
-/// The line for the next block, if one follows. The block is read into the buffer, or past it where it is too long.
-fn next_line<R: Read>(
-    input: &mut R,
+/// Writes the line for a block that is too long, whatever its bytes are.
+fn write_too_long<W: Write>(output: &mut W) -> io::Result<()>
+    ensures { OnOk result ((block : List ℕ) → LONGEST_BLOCK < length block → (kind : LineKind) (cjs es : Room) → WritesLine (LineFor kind cjs es block) (W.contents output.old) (W.contents output.new)) }
+{
+    writeln!(output, "{}", refusal_of_too_long(0))
+}
+
+/// Answers the next block by its line, if one follows, and says whether one did. The block is read into the buffer, or
+/// past it where it is too long.
+fn answer_next<R: Read, W: Write>(
+    lines: &mut BlockLines,
     buffer: &mut [u8; LONGEST_BLOCK],
-) -> Result<Option<Line<Found>>, ReadError>
-    ensures { NextLine (R.remaining input.old) (R.remaining input.new) result }
+    input: &mut R,
+    output: &mut W,
+) -> Result<bool, StreamError>
+    ensures next { NextAnswered (lines_by lines.old) (R.remaining input.old) (R.remaining input.new) (W.contents output.old) (W.contents output.new) result }
+    ensures kept { SameLines lines.old lines.new }
 {
     let Some(length) = next_length(input, buffer.len())? else {
-        return Ok(None);
+        return Ok(false);
     };
-    let answer = match length {
+    match length {
         Length::Fits(count) => {
             let block = &mut buffer[..count];
             fill_whole(input, block)?;
-            answer_for(0, block)
+            lines.write_line(block, output)?;
         }
         Length::TooLong(count) => {
             pass_over(input, buffer, count)?;
-            Err(answer_too_long(0))
+            write_too_long(output)?;
         }
-    };
-    Ok(Some(Line(answer)))
+    }
+    Ok(true)
 }
 
 /// Answers each block of the input by a line on the output. A stream that ends inside a length or a block gets `short`.
 /// It keeps one block at a time, in the buffer. After an `Err` some of the lines may be written.
 pub fn answer_stream_in<R: Read, W: Write>(
+    lines: &mut BlockLines,
     buffer: &mut [u8; LONGEST_BLOCK],
     input: &mut R,
     output: &mut W,
 ) -> io::Result<()>
-    ensures { OnOk result (AnswersAll (R.remaining input.old) (W.contents output.old) (W.contents output.new)) }
+    ensures all { OnOk result (AnswersAll (lines_by lines.old) (R.remaining input.old) (W.contents output.old) (W.contents output.new)) }
+    ensures kept { SameLines lines.old lines.new }
 {
     // A loop has to end, and nothing says that an input does. Each turn takes four bytes at least.
     for _ in 0..u64::MAX {
-        match next_line(input, buffer) {
-            Ok(Some(line)) => writeln!(output, "{line}")?,
-            Ok(None) => return Ok(()),
-            Err(ReadError::CutShort(cut)) => return writeln!(output, "{cut}"),
-            Err(ReadError::Io(error)) => return Err(error),
+        match answer_next(lines, buffer, input, output) {
+            Ok(true) => {}
+            Ok(false) => return Ok(()),
+            Err(StreamError::CutShort(cut)) => return writeln!(output, "{cut}"),
+            Err(StreamError::Io(error)) => return Err(error),
         }
     }
     Ok(())
 }
 
-/// Answers each block of the input as `answer_stream_in` does, in a buffer of its own.
+/// Answers each block of the input as `answer_stream_in` does, by lines of a kind, in a buffer and in tables of its own,
+/// of these sizes for each analysis.
 pub fn answer_stream<R: Read, W: Write>(
     heap: Global,
+    kind: LineKind,
+    sizes: Sizes,
     input: &mut R,
     output: &mut W,
 ) -> io::Result<()>
-    ensures { OnOk result (AnswersAll (R.remaining input.old) (W.contents output.old) (W.contents output.new)) }
+    ensures { OnOk result (AnswersAll (LineFor kind (size_room sizes) (size_room sizes)) (R.remaining input.old) (W.contents output.old) (W.contents output.new)) }
 {
     let mut buffer = vec![in heap; 0u8; LONGEST_BLOCK]?;
     // Proved: the buffer has `LONGEST_BLOCK` bytes.
     let room = buffer.as_mut_slice().try_into().unwrap();
-    answer_stream_in(room, input, output)
+    let mut cjs = TableMemory::new(heap, sizes)?;
+    let mut es = TableMemory::new(heap, sizes)?;
+    let mut lines = BlockLines {
+        kind,
+        cjs: cjs.tables(),
+        es: es.tables(),
+    };
+    answer_stream_in(&mut lines, room, input, output)
 }

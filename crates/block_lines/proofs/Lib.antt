@@ -1,3 +1,4 @@
 mod Parts
+pub mod Rooms
 mod Shown
 mod Told

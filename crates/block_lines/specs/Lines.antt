@@ -1,9 +1,10 @@
 -- The lines of a block: what `findings` and `answers` print for it.
 use Rattle.std.specs.Prelude.{◌≡◌, ℕ, Bool, List, ◌++◌, take, Some, Ok, Err, codes, Result}
+use Rattle.std.specs.Result.{result_and}
 use Rattle.fault.specs.Line.{digit, fault_line, found_or_fault}
 use Rattle.fault.specs.declared.Fault.{Fault}
 use Rattle.findings.specs.Script.{is_script}
-use Rattle.findings.specs.Tables.{Found, Room, describe}
+use Rattle.findings.specs.Tables.{Found, Room, describe, room_of}
 use Rattle.findings.specs.declared.refusal.FindingsFault.{FindingsFault}
 use Rattle.findings.specs.declared.refusal.FindingsFault.TheVariants.{Full}
 use Rattle.findings.specs.declared.tables.FindingsTables.{FindingsTables}
@@ -13,7 +14,10 @@ use Rattle.lines.specs.Texts.{loose_texts}
 use Rattle.text.specs.declared.place.Place.{Place}
 use Rattle.tree.specs.Block.{rows, text}
 use Rattle.tree.specs.Verdict.{Lawful, Verdict}
-use Rattle.block_lines.specs.Analyses.{cjs_of, es_of}
+use Rattle.tree.specs.Verdict as refusal
+use Rattle.tree.specs.declared.refusal.TreeFault.{TreeFault}
+use Rattle.block_lines.specs.Analyses.{AnalysisOf, cjs_of, es_of}
+use Rattle.block_lines.specs.declared.analyses.Analyses.{Analyses}
 use Rattle.block_lines.specs.declared.line.Report.{Report}
 use Rattle.block_lines.specs.declared.line.Names.{Names}
 
@@ -85,3 +89,28 @@ pub record NamesOf (T : List ℕ) (t : FindingsTables) (n : Names) : Type 0 wher
   pub text : n.text.now ≡ T
   pub exports : n.exports.now ≡ take t.exports.len t.exports.rows.now
   pub reexports : n.reexports.now ≡ take t.reexports.len t.reexports.rows.now
+
+-- what the line of `findings` holds: both parts, with the tables after the analyses, or the refusal of the block
+abbrev pub FindingsOf : Result Analyses TreeFault → FindingsTables → FindingsTables → Result (Report (Result Lists Fault)) Fault → Type 0
+FindingsOf (Err e) s t r = r ≡ Err (refusal.describe e)
+FindingsOf (Ok a) s t (Ok x) = (x.is_script ≡ a.is_script) × PartOf a.cjs s x.cjs × PartOf a.es t x.es
+FindingsOf (Ok a) s t (Err f) = ⊥
+
+-- what the line of `answers` holds where both analyses come to this: the names of both, or the first refusal
+abbrev pub BothNames : Analyses → Result (Unit {0}) FindingsFault → FindingsTables → FindingsTables → Result (Report Names) Fault → Type 0
+BothNames a (Err e) s t r = r ≡ Err (describe e)
+BothNames a (Ok _) s t (Ok x) = (x.is_script ≡ a.is_script) × NamesOf a.text.now s x.cjs × NamesOf a.text.now t x.es
+BothNames a (Ok _) s t (Err f) = ⊥
+
+abbrev pub AnswersOf : Result Analyses TreeFault → FindingsTables → FindingsTables → Result (Report Names) Fault → Type 0
+AnswersOf (Err e) s t r = r ≡ Err (refusal.describe e)
+AnswersOf (Ok a) s t r = BothNames a (result_and a.cjs a.es) s t r
+
+-- a line is that of every block in which this is found, where the analyses left these tables
+abbrev pub FindingsLineOf : Result Analyses TreeFault → FindingsTables → FindingsTables → List ℕ → Type 0
+FindingsLineOf r s' t' line =
+    (m : ℕ) (block : List ℕ) (s t : FindingsTables) → AnalysisOf m block s t r s' t' → FindingsText m (room_of s) (room_of t) block line
+
+abbrev pub AnswersLineOf : Result Analyses TreeFault → FindingsTables → FindingsTables → List ℕ → Type 0
+AnswersLineOf r s' t' line =
+    (m : ℕ) (block : List ℕ) (s t : FindingsTables) → AnalysisOf m block s t r s' t' → AnswersText m (room_of s) (room_of t) block line

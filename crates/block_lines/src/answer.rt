@@ -1,10 +1,9 @@
 //! From a block to its line.
 ghost use Rattle.std.specs.Prelude.{◌≡◌, ℕ, ◌<◌, List, length, Some};
-ghost use Rattle.block_lines.specs.Lines.{AnswersText, FindingsText, NamesOf, PartOf, answers_text, findings_text};
-ghost use Rattle.findings.specs.Tables.{room_of};
+ghost use Rattle.block_lines.specs.Lines.{AnswersLineOf, AnswersOf, FindingsLineOf, FindingsOf, NamesOf, PartOf, answers_text, findings_text};
 ghost use Rattle.tree.specs.Verdict.{Verdict};
 
-use crate::analyses::analyse;
+use crate::analyses::Analyses;
 use crate::line::{AnswersLine, FindingsLine, Names, Part, Report};
 use fault::Fault;
 use findings::{FindingsFault, FindingsTables};
@@ -32,17 +31,17 @@ fn part_of<'a>(answer: Result<(), FindingsFault>, tables: &'a FindingsTables<'_>
     })
 }
 
-/// The line of `findings` for a block of a module.
+/// The line of `findings` for a block, by what was found in it and the tables that the analyses filled.
 #[tactic(auto, using(crate::proofs::Told::findings_told))]
 pub fn findings_line<'a>(
-    module: u32,
-    block: &[u8],
-    cjs: &'a mut FindingsTables<'_>,
-    es: &'a mut FindingsTables<'_>,
+    found: Result<Analyses<'_>, TreeFault>,
+    cjs: &'a FindingsTables<'_>,
+    es: &'a FindingsTables<'_>,
 ) -> FindingsLine<'a>
-    ensures { FindingsText «module» (room_of cjs.old) (room_of es.old) block.now (findings_text result) }
+    ensures parts { FindingsOf found.entry cjs.now es.now result }
+    ensures line { FindingsLineOf found.entry cjs.now es.now (findings_text result) }
 {
-    let found = analyse(module, block, cjs, es)?;
+    let found = found?;
     Ok(Report {
         is_script: found.is_script,
         cjs: part_of(found.cjs, cjs),
@@ -51,7 +50,7 @@ pub fn findings_line<'a>(
 }
 
 /// The names that tables hold, as places of a text section.
-fn names_of<'a>(text: &'a [u8], tables: &'a FindingsTables<'_>) -> Names<'a>
+fn names_of<'t, 'a>(text: &'t [u8], tables: &'a FindingsTables<'_>) -> Names<'t, 'a>
     ensures { NamesOf text.now tables.now result }
 {
     Names {
@@ -61,16 +60,16 @@ fn names_of<'a>(text: &'a [u8], tables: &'a FindingsTables<'_>) -> Names<'a>
     }
 }
 
-/// The line of `answers` for a block of a module.
-pub fn answers_line<'a>(
-    module: u32,
-    block: &'a [u8],
-    cjs: &'a mut FindingsTables<'_>,
-    es: &'a mut FindingsTables<'_>,
-) -> AnswersLine<'a>
-    ensures { AnswersText «module» (room_of cjs.old) (room_of es.old) block.now (answers_text result) }
+/// The line of `answers` for a block, by what was found in it and the tables that the analyses filled.
+pub fn answers_line<'t, 'a>(
+    found: Result<Analyses<'t>, TreeFault>,
+    cjs: &'a FindingsTables<'_>,
+    es: &'a FindingsTables<'_>,
+) -> AnswersLine<'t, 'a>
+    ensures names { AnswersOf found.entry cjs.now es.now result }
+    ensures line { AnswersLineOf found.entry cjs.now es.now (answers_text result) }
 {
-    let found = analyse(module, block, cjs, es)?;
+    let found = found?;
     found.cjs.and(found.es)?;
     Ok(Report {
         is_script: found.is_script,

@@ -6,6 +6,6 @@ mod answer;
 mod line;
 
 pub use analyses::{Analyses, analyse};
-pub use answer::refusal_of_too_long;
+pub use answer::{answers_line, findings_line, refusal_of_too_long};
 pub use fault::Line;
 pub use line::{AnswersLine, FindingsLine, Names, Part, Report};

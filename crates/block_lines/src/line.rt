@@ -3,7 +3,7 @@ ghost use Rattle.std.specs.Prelude.{Some};
 ghost use Rattle.block_lines.specs.Lines.{answers_found, findings_found, names_of};
 
 use fault::{Fault, Line};
-use lines::{ByTexts, Lists, LooseTexts};
+use lines::{ByTexts, Listed, Lists};
 use std::fmt;
 use text::Place;
 
@@ -14,7 +14,7 @@ pub type Part<'a> = Result<Lists<'a>, Fault>;
 pub type FindingsLine<'a> = Result<Report<Part<'a>>, Fault>;
 
 /// What `answers` says of a block: the names of both analyses, or the first refusal.
-pub type AnswersLine<'a> = Result<Report<Names<'a>>, Fault>;
+pub type AnswersLine<'t, 'a> = Result<Report<Names<'t, 'a>>, Fault>;
 
 /// What is said of a lawful block: the script test, and what each analysis comes to.
 #[derive(Clone, Copy)]
@@ -26,8 +26,8 @@ pub struct Report<T> {
 
 /// Exports and re-exports by their texts, as places of a text section.
 #[derive(Clone, Copy)]
-pub struct Names<'a> {
-    pub text: &'a [u8],
+pub struct Names<'t, 'a> {
+    pub text: &'t [u8],
     pub exports: &'a [Place],
     pub reexports: &'a [Place],
 }
@@ -46,16 +46,16 @@ impl fmt::Display for Report<Part<'_>> {
 }
 
 /// The exports, and the re-exports.
-impl fmt::Display for Names<'_> {
+impl fmt::Display for Names<'_, '_> {
     ghost output = { λ x. Some (names_of x) };
 
     fn fmt<W: fmt::Write>(&self, f: &mut fmt::Formatter<W>) -> fmt::Result {
         let manner = ByTexts { text: self.text };
-        let exports = LooseTexts {
+        let exports = Listed {
             manner,
             rows: self.exports,
         };
-        let reexports = LooseTexts {
+        let reexports = Listed {
             manner,
             rows: self.reexports,
         };
@@ -64,7 +64,7 @@ impl fmt::Display for Names<'_> {
 }
 
 /// The script answer and the names of both analyses.
-impl fmt::Display for Report<Names<'_>> {
+impl fmt::Display for Report<Names<'_, '_>> {
     ghost output = { λ x. Some (answers_found x) };
 
     #[tactic(auto, using(fault::proofs::Shown::digit_shown))]

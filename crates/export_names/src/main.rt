@@ -1,9 +1,10 @@
-//! Export names of tree blocks: `export_names tree FILE` for people, `export_names findings [B E R U]` for machines.
+//! Export names of tree blocks: `export_names tree FILE` for people, `export_names findings [B E R U]` and
+//! `export_names answers` for machines.
 #![tactic(auto)]
 
 ghost use Rattle.std.specs.Prelude.{◌≡◌, ◌||◌, ◌==◌};
 
-use answers::{LONGEST_BLOCK, ReportText, answer_stream, report_for};
+use answers::{LONGEST_BLOCK, LineKind, ReportText, Sizes, answer_stream, report_for};
 use anyhow::{Context, bail, ensure};
 use std::env::Args;
 use std::fs::File;
@@ -11,7 +12,8 @@ use std::io::{BufReader, BufWriter, Read, Write};
 use std::{env, io};
 
 /// What is said where the arguments name no command.
-const USAGE: &str = "usage: export_names tree FILE | export_names findings [B E R U]";
+const USAGE: &str =
+    "usage: export_names tree FILE | export_names findings [B E R U] | export_names answers";
 
 /// The bytes of a file, up to one more than a block may have: enough to see that it is too long.
 fn read_block(rt: &HostRuntime, path: &str) -> io::Result<Vec<u8>> {
@@ -39,15 +41,44 @@ fn may_be_given(sizes: usize) -> bool
     matches!(sizes, 0 | 4)
 }
 
-/// Answers a stream of blocks on the standard input. The four numbers are sizes of tables that no answer fills yet.
-fn findings_command(rt: &HostRuntime, mut args: Args) -> anyhow::Result<()> {
+/// The next argument, as a size.
+fn next_size(args: &mut Args) -> anyhow::Result<usize> {
+    let size = args.next().context(USAGE)?;
+    Ok(size.as_str().parse::<u32>().ok().context(USAGE)? as usize)
+}
+
+/// The sizes of the tables that the arguments give.
+fn given_sizes(mut args: Args) -> anyhow::Result<Sizes> {
     ensure!(may_be_given(args.len()), USAGE);
-    ensure!(args.all(|size| size.as_str().parse::<u32>().is_ok()), USAGE);
+    if args.len() == 0 {
+        return Ok(Sizes::LARGEST);
+    }
+    Ok(Sizes {
+        bindings: next_size(&mut args)?,
+        exports: next_size(&mut args)?,
+        reexports: next_size(&mut args)?,
+        unsafes: next_size(&mut args)?,
+    })
+}
+
+/// Answers a stream of blocks on the standard input by lines of a kind, with tables of these sizes.
+fn stream_command(rt: &HostRuntime, kind: LineKind, sizes: Sizes) -> anyhow::Result<()> {
     let mut input = BufReader::new(rt.alloc(), rt.stdin())?;
     let mut output = BufWriter::new(rt.alloc(), rt.stdout())?;
-    answer_stream(rt.alloc(), &mut input, &mut output)?;
+    answer_stream(rt.alloc(), kind, sizes, &mut input, &mut output)?;
     output.flush()?;
     Ok(())
+}
+
+/// Prints a line of places for each block.
+fn findings_command(rt: &HostRuntime, args: Args) -> anyhow::Result<()> {
+    stream_command(rt, LineKind::Findings, given_sizes(args)?)
+}
+
+/// Prints a line of names for each block.
+fn answers_command(rt: &HostRuntime, args: Args) -> anyhow::Result<()> {
+    ensure!(args.len() == 0, USAGE);
+    stream_command(rt, LineKind::Answers, Sizes::LARGEST)
 }
 
 /// Runs the command that the arguments name.
@@ -58,6 +89,7 @@ fn run(rt: &HostRuntime) -> anyhow::Result<()> {
     match command.as_str() {
         "tree" => tree_command(rt, args),
         "findings" => findings_command(rt, args),
+        "answers" => answers_command(rt, args),
         _ => bail!(USAGE),
     }
 }
