@@ -1,15 +1,16 @@
 -- What a stream gave, in parts: a part after another, and the lines of all.
-use Rattle.std.proofs.Common.{◌≡◌, ℕ, ◌+◌, ◌≤◌, ◌<◌, Bool, true, false, cond, List, ◌++◌, length, length-append, append_assoc, append-nil, nat_le, refl, sym, ap, ◌∙◌, subst, arith, true≢false}
+use Rattle.std.proofs.Common.{◌≡◌, ℕ, ◌+◌, ◌≤◌, ◌<◌, Bool, true, false, cond, List, [], ◌++◌, codes, length, length-append, append_assoc, append-nil, nat_le, refl, sym, ap, ◌∙◌, subst, arith, true≢false}
 use Rattle.std.proofs.lemmas.Bool.{leb-false}
 use Rattle.std.specs.Prelude.{Option, Some, None, Result, Ok, Err, IfSome, OnOk, IsErrAnd}
 use Rattle.std.specs.declared.io.Error.{Error}
 use Rattle.std.specs.Io.KnownBytes.{Appends, Consumes, IsAtEnd}
-use Rattle.std.proofs.KnownBytes.{Appends-trans, Consumes-trans}
+use Rattle.std.proofs.KnownBytes.{Appends-nil, Appends-trans, Consumes-nil, Consumes-trans}
 use Rattle.text.specs.Number.{le32}
 use Rattle.answers.specs.Answers.{WritesLine, line_end}
-use Rattle.answers.specs.Stream.{WritesLines, CutStream, EndsAfter, LinesOf, NextAnswered, NextLength, Takes, sized}
+use Rattle.answers.specs.Stream.{AnswersAll, WritesLines, CutStream, EndsAfter, LinesOf, NextAnswered, NextLength, Takes, sized}
 use Rattle.answers.specs.Stream.CutStream.{in_length, in_block}
-use Rattle.answers.specs.Stream.LinesOf.{block}
+use Rattle.answers.specs.Stream.LinesOf.{block, cut, none}
+use Rattle.answers.specs.declared.stream.CutShort.{CutShort as CutRecord}
 use Rattle.answers.specs.declared.stream.Length.{Length}
 use Rattle.answers.specs.declared.stream.Length.TheVariants.{Fits, TooLong}
 use Rattle.answers.specs.declared.stream.StreamError.{StreamError}
@@ -118,6 +119,48 @@ module _ (Answers : List ℕ → List ℕ → Type 0) where
       subst (λ l. LinesOf Answers ((taken ++ (head ++ blk)) ++ rest) l) (sym (append_assoc written chunk lines))
       (subst (λ l. LinesOf Answers l (written ++ (chunk ++ lines))) (sym (append_assoc taken (head ++ blk) rest)) all)
 
-pub on_ok : {A E : Type 0} (r : Result A E) (P Q : Type 0) → (P → Q) → OnOk r P → OnOk r Q
-on_ok (Ok x) P Q f p = f p
-on_ok (Err e) P Q f p = tt
+  -- what was taken and written so far, of which the lines of the rest, after these, are those of the whole
+  abbrev pub SoFar : Option (List ℕ) → Option (List ℕ) → Option (List ℕ) → Option (List ℕ) → ℕ → Type 0
+  SoFar a b o p n =
+      (taken written : List ℕ) × (n ≤ length taken) × Consumes a b taken × Appends o p written
+      × ((rest lines : List ℕ) → LinesOf Answers rest lines → LinesOf Answers (taken ++ rest) (written ++ lines))
+
+  pub so_far_none : (a o : Option (List ℕ)) → SoFar a a o o 0
+  so_far_none a o = ([], [], omega arith, Consumes-nil a, Appends-nil o, λ rest lines h. h)
+
+  module _ (a b c o p q : Option (List ℕ)) (n : ℕ) (before : SoFar a b o p n) where
+    -- one block more
+    pub so_far_more : (r : Bool) → r ≡ true → NextAnswered Answers b c p q (Ok r) → SoFar a c o q (n + 1)
+    so_far_more r is next =
+        let (taken, written, count, gave, put, so) = before in
+        let (head, blk, four, long, more, (line, may, wrote)) = subst (λ x. NextAnswered Answers b c p q (Ok x)) is next in
+        let all = length-append taken (head ++ blk) in
+        let both = length-append head blk in (
+          taken ++ (head ++ blk),
+          written ++ (line ++ line_end),
+          omega (arith, count, four, all, both),
+          Consumes-trans a b c taken (head ++ blk) gave more,
+          Appends-trans o p q written (line ++ line_end) put wrote,
+          lines_onward taken written head blk line so four long may,
+        )
+
+    -- the stream ended
+    pub so_far_end : (r : Bool) → r ≡ false → NextAnswered Answers b c p q (Ok r) → AnswersAll Answers a o q
+    so_far_end r is next =
+        let (taken, written, count, gave, put, so) = before in
+        let (end, same) = subst (λ x. NextAnswered Answers b c p q (Ok x)) is next in
+        lines_ended a b b o p q taken written [] [] _ gave put so (Consumes-nil b, end) none (subst (λ x. Appends p x []) (sym same) (Appends-nil p))
+
+    -- it was cut short, and its last line written
+    pub so_far_cut : (r : Option (List ℕ)) (e : StreamError) (k : CutRecord) → e ≡ CutShort k → NextAnswered Answers b c p q (Err e) → Appends q r (codes "short" ++ line_end) → AnswersAll Answers a o r
+    so_far_cut r e k is next last =
+        let (taken, written, count, gave, put, so) = before in
+        let (xs, short, end, same) = subst (λ x. NextAnswered Answers b c p q (Err x)) is next in
+        lines_ended a b c o p r taken written xs (codes "short" ++ line_end) _ gave put so end (cut xs short) (subst (λ x. Appends x r (codes "short" ++ line_end)) same last)
+
+-- lines that may be written stay so under a wider rule
+pub answered_by : (M L : List ℕ → List ℕ → Type 0) → ((block line : List ℕ) → M block line → L block line) → (a b o p : Option (List ℕ)) (r : Result Bool StreamError) → NextAnswered M a b o p r → NextAnswered L a b o p r
+answered_by M L wider a b o p (Ok true) (head, blk, four, long, more, (line, may, wrote)) = (head, blk, four, long, more, (line, wider blk line may, wrote))
+answered_by M L wider a b o p (Ok false) next = next
+answered_by M L wider a b o p (Err (CutShort k)) next = next
+answered_by M L wider a b o p (Err (Io e)) next = tt

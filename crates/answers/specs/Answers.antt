@@ -1,5 +1,5 @@
 -- The line that a block of a stream gets, and what its analyses leave in the tables.
-use Rattle.std.specs.Prelude.{ℕ, List, ◌++◌, Option, Some, codes}
+use Rattle.std.specs.Prelude.{◌≡◌, ℕ, List, ◌++◌, Option, Some, codes}
 use Rattle.std.specs.Io.KnownBytes.{Appends}
 use Rattle.fault.specs.declared.Fault.{Fault}
 use Rattle.findings.specs.Tables.{Leaves, Room, kept, room_of}
@@ -28,6 +28,6 @@ abbrev pub WritesLine : (List ℕ → Type 0) → Option (List ℕ) → Option (
 WritesLine May old new = (line : List ℕ) × May line × Appends old new (line ++ line_end)
 
 -- what the analyses of a block leave in tables which were s and t: all as it was where the block is refused
-pub data TablesAfter (block : List ℕ) (s t : FindingsTables) : FindingsTables → FindingsTables → Type 0 where
-  refused : (f : Fault) → Verdict 0 block (Some f) → TablesAfter block s t s t
-  analysed : (s' t' : FindingsTables) → Lawful block → Leaves s (kept (cjs_of (room_of s) block)) s' → Leaves t (kept (es_of (room_of t) block)) t' → TablesAfter block s t s' t'
+pub data TablesAfter (block : List ℕ) (s t s' t' : FindingsTables) : Type 0 where
+  refused : (f : Fault) → Verdict 0 block (Some f) → s' ≡ s → t' ≡ t → TablesAfter block s t s' t'
+  analysed : Lawful block → Leaves s (kept (cjs_of (room_of s) block)) s' → Leaves t (kept (es_of (room_of t) block)) t' → TablesAfter block s t s' t'

@@ -37,8 +37,8 @@ impl BlockLines<'_> {
                 writeln!(output, "{line}")
             }
             LineKind::Answers => {
-                let line = Line(answers_line(found, &self.cjs, &self.es));
-                writeln!(output, "{line}")
+                let names = Line(answers_line(found, &self.cjs, &self.es));
+                writeln!(output, "{names}")
             }
         }
     }
