@@ -2,7 +2,11 @@
 use Rattle.std.specs.Prelude.{◌≡◌, ℕ, Bool, cond, List, ◌++◌, length, Some, Ok, Err, Result, codes, decimal}
 use Rattle.fault.specs.Line.{fault_line}
 use Rattle.findings.specs.Script.{is_script, kind_word, program_kind}
-use Rattle.tree.specs.Block.{rows}
+use Rattle.findings.specs.Tables.{Room}
+use Rattle.block_lines.specs.Analyses.{cjs_of, es_of}
+use Rattle.people.specs.Listed.{outcome_words}
+use Rattle.people.specs.declared.names.Rules.TheVariants.{CommonJs, Es}
+use Rattle.tree.specs.Block.{rows, text}
 use Rattle.tree.specs.Verdict.{Lawful, Verdict, describe, reason_words}
 use Rattle.tree.specs.declared.refusal.TreeFault.{TreeFault}
 use Rattle.answers.specs.declared.report.Report.{Report}
@@ -28,3 +32,13 @@ abbrev pub report_text : Result Report TreeFault → List ℕ
 report_text (Err refusal) =
     codes "not a lawful tree block\n" ++ (fault_line (describe refusal) ++ (codes ": " ++ reason_words refusal))
 report_text (Ok r) = held_text r
+
+-- what a lawful block holds, and what each analysis lists of it with tables of this room
+abbrev pub described : Room → List ℕ → Report → List ℕ
+described room block r =
+    held_text r ++ (codes "\n" ++ (outcome_words CommonJs 0 (text block) (cjs_of room block) ++ (codes "\n" ++ outcome_words Es 0 (text block) (es_of room block))))
+
+-- the words for a block: that it is refused, with the fault's line and its reason; or what it holds and what is listed of it
+pub data Described (room : Room) (block : List ℕ) : List ℕ → Type 0 where
+  refused : (e : TreeFault) → ReportOf 0 block (Err e) → Described room block (report_text (Err e))
+  lawful : (r : Report) → ReportOf 0 block (Ok r) → Described room block (described room block r)

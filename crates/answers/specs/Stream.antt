@@ -55,6 +55,8 @@ pub record SameLines (s t : BlockLines) : Type 0 where
   pub kind : t.kind ≡ s.kind
   pub cjs : SameLenders s.cjs t.cjs
   pub es : SameLenders s.es t.es
+  pub small_cjs : SameLenders s.small_cjs t.small_cjs
+  pub small_es : SameLenders s.small_es t.small_es
   pub cjs_room : room_of t.cjs ≡ room_of s.cjs
   pub es_room : room_of t.es ≡ room_of s.es
 

@@ -8,6 +8,6 @@ mod stream;
 
 pub use answer::{BlockLines, LineKind};
 pub use memory::Sizes;
-pub use report::{Report, ReportText, report_for};
+pub use report::{Report, ReportText, report_for, write_report};
 pub use stream::{CutShort, Length, announced, answer_stream, answer_stream_in};
 pub use tree::LONGEST_BLOCK;

@@ -1,6 +1,6 @@
 //! The memory of findings tables, for programs.
 ghost use Rattle.std.specs.Prelude.{◌≡◌, IfOk};
-ghost use Rattle.answers.specs.Memory.{memory_room, size_room};
+ghost use Rattle.answers.specs.Memory.{at_most, memory_room, size_room};
 ghost use Rattle.findings.specs.Tables.{room_of};
 
 use findings::FindingsTables;
@@ -25,6 +25,18 @@ impl Sizes {
         reexports: 65_536,
         unsafes: 65_536,
     };
+
+    /// The same, but that no table has more rows than these.
+    pub(crate) fn at_most(self, rows: usize) -> Self
+        ensures { size_room result ≡ at_most rows (size_room self) }
+    {
+        Sizes {
+            bindings: self.bindings.min(rows),
+            exports: self.exports.min(rows),
+            reexports: self.reexports.min(rows),
+            unsafes: self.unsafes.min(rows),
+        }
+    }
 }
 
 /// The rows of an analysis's tables.

@@ -1,10 +1,17 @@
-//! What a block is, in words for people.
-ghost use Rattle.std.specs.Prelude.{◌≡◌, Some};
-ghost use Rattle.answers.specs.Report.{ReportOf, held_text, report_text, yes_or_no};
+//! What a block is, and what the analyses list of it, in words for people.
+ghost use Rattle.std.specs.Prelude.{◌≡◌, OnOk, Some};
+ghost use Rattle.answers.specs.Answers.{WritesLine};
+ghost use Rattle.answers.specs.Memory.{size_room};
+ghost use Rattle.answers.specs.Report.{Described, ReportOf, held_text, report_text, yes_or_no};
 
+use crate::memory::{Sizes, TableMemory};
+use block_lines::{Analyses, analyse};
 use fault::Fault;
 use findings::parsed_source::{ProgramKind, ProgramRef};
-use std::fmt;
+use people::{Rules, listed};
+use std::alloc::Global;
+use std::io::Write;
+use std::{fmt, io};
 use tree::{Tree, TreeFault};
 
 /// What is reported of a lawful block: how many rows it has, what its program is, and what the script test says.
@@ -66,5 +73,42 @@ impl fmt::Display for ReportText {
                 write!(f, "not a lawful tree block\n{fault}: {refusal}")
             }
         }
+    }
+}
+
+/// The report of a block in which this was found.
+impl From<Analyses<'_>> for Report {
+    ghost from_gives = { λ found report. (report.rows ≡ found.rows) × (report.kind ≡ found.kind) × (report.is_script ≡ found.is_script) };
+
+    fn from(found: Analyses<'_>) -> Self {
+        Report {
+            rows: found.rows,
+            kind: found.kind,
+            is_script: found.is_script,
+        }
+    }
+}
+
+/// Writes the report of a block, and what each analysis lists of it in tables of these sizes.
+pub fn write_report<W: Write>(
+    heap: Global,
+    sizes: Sizes,
+    block: &[u8],
+    output: &mut W,
+) -> io::Result<()>
+    ensures { OnOk result (WritesLine (Described (size_room sizes) block.now) (W.contents output.old) (W.contents output.new)) }
+{
+    let mut cjs_memory = TableMemory::new(heap, sizes)?;
+    let mut es_memory = TableMemory::new(heap, sizes)?;
+    let mut cjs_tables = cjs_memory.tables();
+    let mut es_tables = es_memory.tables();
+    match analyse(0, block, &mut cjs_tables, &mut es_tables) {
+        Ok(found) => {
+            let report = Report::from(found);
+            let cjs = listed(Rules::CommonJs, found.text, found.cjs, &cjs_tables);
+            let es = listed(Rules::Es, found.text, found.es, &es_tables);
+            writeln!(output, "{report}\n{cjs}\n{es}")
+        }
+        Err(refusal) => writeln!(output, "{}", ReportText(Err(refusal))),
     }
 }

@@ -16,6 +16,9 @@ use std::io::{Read, Write};
 use std::{fmt, io};
 use tree::LONGEST_BLOCK;
 
+/// How many rows at most a table has in which a block is analysed first.
+const SMALL: usize = 1_024;
+
 /// The length of a block: of one that fits into the room there is, or of one that is too long for it.
 // No bare number, as `announced` promises which it is; no `Result`, in which a length would be called a failure; no
 // `Option` of a part of the buffer, as a block that is too long is read past by its length.
@@ -231,12 +234,17 @@ pub fn answer_stream<R: Read, W: Write>(
     let mut buffer = vec![in heap; 0u8; LONGEST_BLOCK]?;
     // Proved: the buffer has `LONGEST_BLOCK` bytes.
     let room = buffer.as_mut_slice().try_into().unwrap();
+    let small = sizes.at_most(SMALL);
     let mut cjs = TableMemory::new(heap, sizes)?;
     let mut es = TableMemory::new(heap, sizes)?;
+    let mut small_cjs = TableMemory::new(heap, small)?;
+    let mut small_es = TableMemory::new(heap, small)?;
     let mut lines = BlockLines {
         kind,
         cjs: cjs.tables(),
         es: es.tables(),
+        small_cjs: small_cjs.tables(),
+        small_es: small_es.tables(),
     };
     answer_stream_in(&mut lines, room, input, output)
 }

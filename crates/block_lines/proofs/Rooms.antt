@@ -1,5 +1,5 @@
 -- What an analysis comes to has room in its tables, so they have as many rows after it as before.
-use Rattle.std.proofs.Common.{◌≡◌, ℕ, ◌≤◌, ◌+◌, Bool, true, false, cond, le_trans, List, [], ◌∷◌, ◌++◌, length, filter, Ok, Err, Result, sym, refl, ap, ◌∙◌, subst, ⊎_elim, arith, leb-true}
+use Rattle.std.proofs.Common.{◌≡◌, ℕ, ◌≤◌, ◌+◌, Bool, true, false, cond, le_trans, List, [], ◌∷◌, ◌++◌, length, filter, Ok, Err, Result, sym, refl, ap, ◌∙◌, subst, ⊎_elim, arith, le-leb, leb-true}
 use Rattle.std.proofs.lemmas.Bool.{and_parts, cases_Bool, cond-false, cond-true}
 use Rattle.std.proofs.lemmas.List.Sums.{length-filter, count_by-le-length}
 use Rattle.tree.specs.declared.row.Row.{Row}
@@ -9,13 +9,14 @@ use Rattle.findings.proofs.Leaving.{room_held}
 use Rattle.findings.specs.Tables.{Found, Leaves, Room, kept, nothing, room_of}
 use Rattle.findings.specs.declared.tables.FindingsTables.{FindingsTables}
 use Rattle.cjs_rules.specs.Nodes.{Node}
-use Rattle.cjs_law.proofs.Stands.{fits_so}
+use Rattle.cjs_law.proofs.Stands.{fits_so, so_fits}
 use Rattle.cjs_law.specs.Findings.{Fits, fits, held, outcome, outcome_after, safe}
 use Rattle.cjs_law.specs.Walk.{Act}
 use Rattle.exports.specs.Beyond.{item_names}
 use Rattle.exports.specs.ExportedNames.{star_of}
 use Rattle.exports.specs.Listing.{es_outcome, has_enough_room, items, listed, listing}
 use Rattle.block_lines.specs.Analyses.{cjs_of, es_of}
+use Rattle.block_lines.specs.Rooms.{is_within}
 
 no_filter_lengthens : {X : Type 0} (p : X → Bool) (xs : List X) → length (filter p xs) ≤ length xs
 no_filter_lengthens p xs = rw (length-filter p xs) (count_by-le-length p xs)
@@ -67,3 +68,56 @@ cjs_room_kept block s t = room_kept s t _ (kept_fits (room_of s) (cjs_of (room_o
 
 pub es_room_kept : (block : List ℕ) (s t : FindingsTables) → Leaves s (kept (es_of (room_of s) block)) t → room_of t ≡ room_of s
 es_room_kept block s t = room_kept s t _ (kept_fits (room_of s) (es_of (room_of s) block) (λ f. es_fits (room_of s) [] [] _ f (omega arith) (omega arith)))
+
+-- no table of the one room has more rows than its like of the other
+pub record Within (small large : Room) : Type 0 where
+  pub bindings : small.bindings ≤ large.bindings
+  pub exports : small.exports ≤ large.exports
+  pub reexports : small.reexports ≤ large.reexports
+  pub unsafes : small.unsafes ≤ large.unsafes
+
+pub within_so : (small large : Room) → is_within small large ≡ true → Within small large
+within_so small large e =
+    let (first, d) = and_parts _ _ e in
+    let (second, c) = and_parts _ _ first in
+    let (a, b) = and_parts _ _ second in
+    record { bindings = leb-true _ _ a; exports = leb-true _ _ b; reexports = leb-true _ _ c; unsafes = leb-true _ _ d }
+
+-- what fits into less room comes out the same with more
+module _ (small large : Room) (w : Within small large) where
+  fits_more : (f : Found) → fits small f ≡ true → fits large f ≡ true
+  fits_more f e =
+      let h = fits_so small f e in
+      so_fits large f (record { bindings = le_trans h.bindings w.bindings; exports = le_trans h.exports w.exports; reexports = le_trans h.reexports w.reexports; unsafes = le_trans h.unsafes w.unsafes })
+
+  cjs_more : (T : List ℕ) (done acts : List Act) (f : Found) → outcome_after T small done acts ≡ Ok f → outcome_after T large done acts ≡ Ok f
+  cjs_more T done [] f e = e
+  cjs_more T done (a ∷ acts) f e =
+      ⊎_elim
+      (λ yes. cond-true _ _ _ (fits_more _ yes) ∙ cjs_more T (done ++ a ∷ []) acts f (sym (cond-true _ _ _ yes) ∙ e))
+      (λ no. never _ _ (sym (cond-false _ _ _ no) ∙ e))
+      (cases_Bool (fits small (held T (done ++ a ∷ []))))
+
+  enough_more : (f : Found) → has_enough_room small f ≡ true → has_enough_room large f ≡ true
+  enough_more f e =
+      let parts = and_parts _ _ e in
+      let a = leb-true (length f.exports) small.exports parts.0 in
+      let b = leb-true (length f.reexports) small.reexports parts.1 in
+      let exports : length f.exports ≤ large.exports = omega (arith, a, w.exports) in
+      let reexports : length f.reexports ≤ large.reexports = omega (arith, b, w.reexports) in
+      rw (le-leb _ _ exports, le-leb _ _ reexports) refl
+
+  es_more : (names stars : List Place) (g : Forest) (f : Found) → listed small names stars g ≡ Ok f → listed large names stars g ≡ Ok f
+  es_more names stars nil f e = e
+  es_more names stars (node j r ks rest) f e =
+      let n : Node = record { row = r; kids = ks } in
+      ⊎_elim
+      (λ yes. cond-true _ _ _ (enough_more (listing (names ++ item_names n) (stars ++ star_of n)) yes) ∙ es_more (names ++ item_names n) (stars ++ star_of n) rest f (sym (cond-true _ _ _ yes) ∙ e))
+      (λ no. never _ _ (sym (cond-false _ _ _ no) ∙ e))
+      (cases_Bool (has_enough_room small (listing (names ++ item_names n) (stars ++ star_of n))))
+
+  pub cjs_same : (block : List ℕ) (f : Found) → cjs_of small block ≡ Ok f → cjs_of large block ≡ cjs_of small block
+  cjs_same block f e = cjs_more _ [] _ f e ∙ sym e
+
+  pub es_same : (block : List ℕ) (f : Found) → es_of small block ≡ Ok f → es_of large block ≡ es_of small block
+  es_same block f e = es_more [] [] _ f e ∙ sym e

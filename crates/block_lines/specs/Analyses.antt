@@ -1,8 +1,8 @@
 -- What the check and the analyses of a block come to, and what they leave in the tables.
-use Rattle.std.specs.Prelude.{◌≡◌, ℕ, List, Some, Ok, Err, Result}
+use Rattle.std.specs.Prelude.{◌≡◌, ℕ, List, length, Some, Ok, Err, Result}
 use Rattle.cjs_parse.specs.Outcome.{cjs_outcome}
 use Rattle.exports.specs.Listing.{es_outcome}
-use Rattle.findings.specs.Script.{is_script}
+use Rattle.findings.specs.Script.{is_script, program_kind}
 use Rattle.findings.specs.Tables.{Analysed, Found, Room, room_of}
 use Rattle.findings.specs.declared.tables.FindingsTables.{FindingsTables}
 use Rattle.tree.specs.Block.{rows, text}
@@ -17,10 +17,12 @@ cjs_of room block = cjs_outcome room (text block) (rows block)
 abbrev pub es_of : Room → List ℕ → Result Found ℕ
 es_of room block = es_outcome room (rows block)
 
--- the block is lawful; the script test is that of its rows, and each analysis fills its own tables, which were s and t
+-- the block is lawful; its rows are counted, its program and the script test are those of the rows, and each analysis fills its own tables, which were s and t
 pub record Analysis (m : ℕ) (block : List ℕ) (s t : FindingsTables) (a : Analyses) (s' t' : FindingsTables) : Type 0 where
   pub lawful : Lawful block
   pub text_is : a.text.now ≡ text block
+  pub rows_is : a.rows ≡ length (rows block)
+  pub kind_is : a.kind ≡ program_kind (rows block)
   pub script_is : a.is_script ≡ is_script (rows block)
   pub cjs_is : Analysed m s (cjs_of (room_of s) block) a.cjs s'
   pub es_is : Analysed m t (es_of (room_of t) block) a.es t'

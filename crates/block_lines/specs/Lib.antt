@@ -1,2 +1,3 @@
 pub mod Analyses
 pub mod Lines
+pub mod Rooms

@@ -4,16 +4,18 @@ ghost use Rattle.block_lines.specs.Analyses.{AnalysisOf};
 
 use cjs_parse::analyze_cjs;
 use exports::analyze_es_runtime_exports;
-use findings::parsed_source::ProgramRef;
+use findings::parsed_source::{ProgramKind, ProgramRef};
 use findings::{FindingsFault, FindingsTables};
 use tree::{Tree, TreeFault};
 
-/// What is found in a lawful block: its text section, the script test, and whether each analysis is refused. What the
-/// analyses find stands in their tables.
-// No text beside a `Report`: callers read the four fields by these names.
+/// What is found in a lawful block: its text section, how many rows it has, what its program is, the script test, and
+/// whether each analysis is refused. What the analyses find stands in their tables.
+// No text beside a `Report`: callers read the fields by these names.
 #[derive(Clone, Copy)]
 pub struct Analyses<'a> {
     pub text: &'a [u8],
+    pub rows: usize,
+    pub kind: ProgramKind,
     pub is_script: bool,
     pub cjs: Result<(), FindingsFault>,
     pub es: Result<(), FindingsFault>,
@@ -34,6 +36,8 @@ pub fn analyse<'a>(
     let program = ProgramRef::new(&tree);
     Ok(Analyses {
         text: tree.text_section(),
+        rows: tree.count(),
+        kind: program.kind(),
         is_script: program.compute_is_script(),
         cjs: analyze_cjs(program, cjs),
         es: analyze_es_runtime_exports(program, es),

@@ -3,23 +3,30 @@
 
 mod build;
 
-use answers::{LONGEST_BLOCK, Line, answer_for, answer_stream};
+use answers::{LONGEST_BLOCK, LineKind, Sizes, answer_stream};
 use build::{chain, flat, framed, padded};
 use std::io;
+use std::io::Read;
 
-/// Prints the answer for a block.
-fn show(rt: &HostRuntime, name: &str, block: &[u8]) -> io::Result<()> {
-    let length = block.len();
-    let answer = Line(answer_for(0, block));
-    println!(rt; "{name} ({length} bytes): {answer}")
+/// Prints the lines for a stream.
+fn answer<R: Read>(rt: &HostRuntime, input: &mut R) -> io::Result<()> {
+    let (kind, sizes) = (LineKind::Findings, Sizes::LARGEST);
+    answer_stream(rt.alloc(), kind, sizes, input, &mut rt.stdout())
 }
 
-/// Prints the answers for a stream.
+/// Prints the line for a block.
+fn show(rt: &HostRuntime, name: &str, block: &[u8]) -> io::Result<()> {
+    let length = block.len();
+    print!(rt; "{name} ({length} bytes): ")?;
+    let head = (length.min(LONGEST_BLOCK + 1) as u32).to_le_bytes();
+    answer(rt, &mut head.as_slice().chain(block))
+}
+
+/// Prints the lines for a stream.
 fn show_stream(rt: &HostRuntime, name: &str, stream: &[u8]) -> io::Result<()> {
     println!(rt; "{name}:")?;
     let mut input = stream;
-    let mut output = rt.stdout();
-    answer_stream(rt.alloc(), &mut input, &mut output)
+    answer(rt, &mut input)
 }
 
 /// Blocks at each bound and one past it.

@@ -4,7 +4,7 @@
 
 ghost use Rattle.std.specs.Prelude.{◌≡◌, ◌||◌, ◌==◌};
 
-use answers::{LONGEST_BLOCK, LineKind, ReportText, Sizes, answer_stream, report_for};
+use answers::{LONGEST_BLOCK, LineKind, Sizes, answer_stream, write_report};
 use anyhow::{Context, bail, ensure};
 use std::env::Args;
 use std::fs::File;
@@ -23,14 +23,16 @@ fn read_block(rt: &HostRuntime, path: &str) -> io::Result<Vec<u8>> {
     Ok(block)
 }
 
-/// Prints what the block in a file is.
+/// Prints what the block in a file is, and what it lists.
 fn tree_command(rt: &HostRuntime, mut args: Args) -> anyhow::Result<()> {
     let (Some(path), None) = (args.next(), args.next()) else {
         bail!(USAGE);
     };
     let name = path.as_str();
-    let report = ReportText(report_for(0, &read_block(rt, name)?));
-    println!(rt; "{name}: {report}")?;
+    let block = read_block(rt, name)?;
+    print!(rt; "{name}: ")?;
+    let mut output = rt.stdout();
+    write_report(rt.alloc(), Sizes::LARGEST, &block, &mut output)?;
     Ok(())
 }
 

@@ -7,4 +7,4 @@ mod texts;
 
 pub use listed::{Listed, Manner};
 pub use places::{Bindings, ByNumbers, Lists, Places};
-pub use texts::{ByTexts, LooseTexts};
+pub use texts::{ByTexts, LooseTexts, bytes_at};

@@ -20,7 +20,7 @@ fn write_hex<W: fmt::Write>(text: &[u8], f: &mut fmt::Formatter<W>) -> fmt::Resu
 }
 
 /// The bytes at a place, or those of the name `default` at its place.
-fn bytes_at<'a>(text: &'a [u8], place: &Place) -> &'a [u8]
+pub fn bytes_at<'a>(text: &'a [u8], place: &Place) -> &'a [u8]
     ensures { loose result.now ≡ reading_at text.now place.now }
 {
     if *place == Place::TEXTLESS {

@@ -7,7 +7,7 @@ use Rattle.findings.specs.declared.refusal.FindingsFault.TheVariants.{Full}
 use Rattle.findings.specs.declared.tables.FindingsTables.{FindingsTables}
 use Rattle.block_lines.specs.declared.line.Names.{Names}
 use Rattle.people.specs.Listed.{Lists, NamesListed, listed_text, names_words, outcome_words, refusal_words}
-use Rattle.people.specs.declared.listed.Rules.{Rules}
+use Rattle.people.specs.declared.names.Rules.{Rules}
 
 pub lists_outcome : (rules : Rules) (T : List ℕ) (a : Result (Unit {0}) FindingsFault) (t : FindingsTables) (r : Result Names FindingsFault) → NamesListed T a t r → Lists rules T a t (listed_text rules r)
 lists_outcome rules T a t r h = λ m s o d. at m s o r d.tables.holds (subst (λ x. NamesListed T x t r) d.answer h)

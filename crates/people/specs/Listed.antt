@@ -9,8 +9,8 @@ use Rattle.block_lines.specs.Lines.{NamesOf}
 use Rattle.text.specs.declared.place.Place.{Place}
 use Rattle.findings.specs.declared.refusal.FindingsFault.{FindingsFault}
 use Rattle.people.specs.Quoted.{counted_names}
-use Rattle.people.specs.declared.listed.Rules.{Rules}
-use Rattle.people.specs.declared.listed.Rules.TheVariants.{CommonJs, Es}
+use Rattle.people.specs.declared.names.Rules.{Rules}
+use Rattle.people.specs.declared.names.Rules.TheVariants.{CommonJs, Es}
 
 -- the word for the rules of an analysis
 abbrev pub rules_word : Rules → List ℕ

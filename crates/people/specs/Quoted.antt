@@ -12,16 +12,16 @@ abbrev pub quoted_byte : ℕ → List ℕ
 quoted_byte b = cond (is_plain b) (b ∷ []) (codes "\\x" ++ hex_bytes (b ∷ []))
 
 abbrev pub inside_quotes : List ℕ → List ℕ
-inside_quotes [] = codes "\""
+inside_quotes [] = []
 inside_quotes (b ∷ bs) = quoted_byte b ++ inside_quotes bs
 
-abbrev pub quoted_bytes : List ℕ → List ℕ
-quoted_bytes bs = codes "\"" ++ inside_quotes bs
+-- a name on a line of its own, between quotes
+abbrev pub name_line : List ℕ → Place → List ℕ
+name_line text name = codes "\n    \"" ++ (inside_quotes (reading_at text name) ++ codes "\"")
 
--- each name on a line of its own
 abbrev pub name_lines : List ℕ → List Place → List ℕ
 name_lines text [] = []
-name_lines text (row ∷ rows) = codes "\n    " ++ (quoted_bytes (reading_at text row) ++ name_lines text rows)
+name_lines text (row ∷ rows) = name_line text row ++ name_lines text rows
 
 -- how many there are, and then each
 abbrev pub counted_names : List ℕ → List Place → List ℕ

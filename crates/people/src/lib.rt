@@ -1,8 +1,8 @@
 //! What the analyses list of a block, in words for people, proved down to the character. Nothing here allocates.
 #![tactic(auto)]
 
-mod listed;
+mod names;
 mod quoted;
 
-pub use listed::{Listed, Rules, listed};
+pub use names::{ListedNames, Rules, listed};
 pub use quoted::CountedNames;

@@ -2,10 +2,10 @@
 ghost use Rattle.std.specs.Prelude.{◌≡◌, [], ◌∷◌, Some};
 ghost use Rattle.std.specs.Fmt.{WritesOnOk};
 ghost use Rattle.text.specs.Reading.{loose};
-ghost use Rattle.people.specs.Quoted.{counted_names, is_plain, quoted_byte, quoted_bytes};
-ghost use Rattle.lines.specs.Texts.{hex_bytes, reading_at};
+ghost use Rattle.people.specs.Quoted.{counted_names, inside_quotes, is_plain, name_line, quoted_byte};
+ghost use Rattle.lines.specs.Texts.{hex_bytes};
 
-use lines::text_at;
+use lines::bytes_at;
 use std::fmt;
 use text::{LooseBytes, Place};
 
@@ -37,15 +37,27 @@ fn write_byte<W: fmt::Write>(byte: u8, f: &mut fmt::Formatter<W>) -> fmt::Result
     }
 }
 
-/// Writes the loose reading of a text between quotes.
+/// Writes the bytes of the loose reading of a text.
 #[tactic(auto, using(crate::proofs::Quoting::byte_written))]
-fn write_quoted<W: fmt::Write>(text: &[u8], f: &mut fmt::Formatter<W>) -> fmt::Result
-    ensures { WritesOnOk W.write_str_gives f.old result (quoted_bytes (loose text.now)) f.new }
+fn write_bytes<W: fmt::Write>(text: &[u8], f: &mut fmt::Formatter<W>) -> fmt::Result
+    ensures { WritesOnOk W.write_str_gives f.old result (inside_quotes (loose text.now)) f.new }
 {
-    f.write_str("\"")?;
     for byte in LooseBytes::new(text) {
         write_byte(byte, f)?;
     }
+    Ok(())
+}
+
+/// Writes a name on a line of its own, between quotes.
+fn write_name<W: fmt::Write>(
+    text: &[u8],
+    name: &Place,
+    f: &mut fmt::Formatter<W>,
+) -> fmt::Result
+    ensures { WritesOnOk W.write_str_gives f.old result (name_line text.now name.now) f.new }
+{
+    f.write_str("\n    \"")?;
+    write_bytes(bytes_at(text, name), f)?;
     f.write_str("\"")
 }
 
@@ -60,12 +72,11 @@ pub struct CountedNames<'t, 'a> {
 impl fmt::Display for CountedNames<'_, '_> {
     ghost output = { λ x. Some (counted_names x.text.now x.rows.now) };
 
-    #[tactic(auto, using(crate::proofs::Quoting::name_written))]
     fn fmt<W: fmt::Write>(&self, f: &mut fmt::Formatter<W>) -> fmt::Result {
-        write!(f, "{}", self.rows.len())?;
-        for row in self.rows {
-            f.write_str("\n    ")?;
-            write_quoted(text_at(self.text, row), f)?;
+        let rows = self.rows;
+        write!(f, "{}", rows.len())?;
+        for row in rows {
+            write_name(self.text, row, f)?;
         }
         Ok(())
     }

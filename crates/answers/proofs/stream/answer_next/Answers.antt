@@ -19,7 +19,7 @@ returns-in_err-fill_whole-in-Fits-clause-next g c =
 pub returns-in_err-write_line-in-Fits-clause-kept :
     goal.returns-in_err-write_line-in-Fits-clause-kept
 returns-in_err-write_line-in-Fits-clause-kept g c =
-    same_lines _ c.args.lines.now c.write_line.new.self c.write_line.ensures.kind c.write_line.ensures.tables
+    same_lines _ c.args.lines.now c.write_line.new.self c.write_line.ensures.tables
 
 pub returns-in_err-pass_over-in-TooLong-clause-next :
     goal.returns-in_err-pass_over-in-TooLong-clause-next
@@ -35,7 +35,7 @@ returns-in_ok-write_line-in-Fits-clause-next g c =
 pub returns-in_ok-write_line-in-Fits-clause-kept :
     goal.returns-in_ok-write_line-in-Fits-clause-kept
 returns-in_ok-write_line-in-Fits-clause-kept g c =
-    same_lines _ c.args.lines.now c.write_line.new.self c.write_line.ensures.kind c.write_line.ensures.tables
+    same_lines _ c.args.lines.now c.write_line.new.self c.write_line.ensures.tables
 
 pub returns-in_ok-write_too_long-in-TooLong-clause-next :
     goal.returns-in_ok-write_too_long-in-TooLong-clause-next

@@ -1,5 +1,5 @@
 //! What each analysis lists of a block, or its refusal.
-ghost use Rattle.std.specs.Prelude.{Some};
+ghost use Rattle.std.specs.Prelude.{◌≡◌, Some};
 ghost use Rattle.people.specs.Listed.{Lists, NamesListed, listed_text, rules_word};
 
 use crate::quoted::CountedNames;
@@ -17,18 +17,19 @@ pub enum Rules {
 
 /// What an analysis lists: the names, or its refusal.
 #[derive(Clone, Copy)]
-pub struct Listed<'t, 'a> {
+pub struct ListedNames<'t, 'a> {
     pub rules: Rules,
     pub names: Result<Names<'t, 'a>, FindingsFault>,
 }
 
 /// What an analysis lists that answers so, of the tree of a text section, in tables that it filled.
+#[tactic(auto, using(crate::proofs::Listing::lists_outcome))]
 pub fn listed<'t, 'a>(
     rules: Rules,
     text: &'t [u8],
     answer: Result<(), FindingsFault>,
     tables: &'a FindingsTables<'_>,
-) -> Listed<'t, 'a>
+) -> ListedNames<'t, 'a>
     ensures rules { result.rules ≡ rules }
     ensures names { NamesListed text.now answer tables.now result.names }
     ensures lists { Lists rules text.now answer tables.now (listed_text result.rules result.names) }
@@ -41,7 +42,7 @@ pub fn listed<'t, 'a>(
         }),
         Err(refusal) => Err(refusal),
     };
-    Listed { rules, names }
+    ListedNames { rules, names }
 }
 
 /// The word for the rules.
@@ -57,7 +58,7 @@ impl fmt::Display for Rules {
 }
 
 /// The exports and the re-exports, or the fault and its reason.
-impl fmt::Display for Listed<'_, '_> {
+impl fmt::Display for ListedNames<'_, '_> {
     ghost output = { λ x. Some (listed_text x.rules x.names) };
 
     fn fmt<W: fmt::Write>(&self, f: &mut fmt::Formatter<W>) -> fmt::Result {

@@ -1,0 +1,70 @@
+-- What is found in small tables without lacking a row is what is found in larger ones.
+use Rattle.std.proofs.Common.{◌≡◌, ℕ, Bool, true, false, List, ◌++◌, Ok, Err, Result, codes, refl, sym, ap, ◌∙◌, subst, true≢false}
+use Rattle.std.proofs.lemmas.Bool.{and_parts}
+use Rattle.std.specs.Prelude.{Some, is_ok}
+use Rattle.fault.specs.Line.{digit}
+use Rattle.fault.specs.declared.Fault.{Fault}
+use Rattle.findings.specs.Script.{is_script}
+use Rattle.findings.specs.Tables.{Found, Room, answered, room_of}
+use Rattle.findings.specs.declared.refusal.FindingsFault.{FindingsFault}
+use Rattle.findings.specs.declared.tables.FindingsTables.{FindingsTables}
+use Rattle.tree.specs.Block.{rows, text}
+use Rattle.tree.specs.Verdict.{Lawful, Verdict, bad_layout, bad_end, bad_depth, bad_shape, bad_text}
+use Rattle.tree.specs.declared.refusal.TreeFault.{TreeFault}
+use Rattle.block_lines.proofs.Rooms.{Within, cjs_same, es_same, within_so}
+use Rattle.block_lines.specs.Analyses.{AnalysisOf, cjs_of, es_of}
+use Rattle.block_lines.specs.Lines.{AnswersText, FindingsText, both_text, found, outcome_text, refused}
+use Rattle.block_lines.specs.declared.analyses.Analyses.{Analyses}
+use Rattle.answers.specs.Answers.{InSmall, LineFor, is_whole, lines_by}
+use Rattle.answers.specs.declared.answer.BlockLines.{BlockLines}
+use Rattle.answers.specs.declared.answer.LineKind.{LineKind}
+use Rattle.answers.specs.declared.answer.LineKind.TheVariants.{Answers, Findings}
+
+-- a lawful block is not refused
+refuted : (block : List ℕ) (f : Fault) → Lawful block → Verdict 0 block (Some f) → ⊥
+refuted block f l (bad_layout n) = n l.layout
+refuted block f l (bad_end k a first) = first.1 (l.ends k first.0)
+refuted block f l (bad_depth k a b first) = first.1 (l.depths k first.0)
+refuted block f l (bad_shape k a b c first) = first.1 (l.shapes k first.0)
+refuted block f l (bad_text k a b c d first) = first.1 (l.texts k first.0)
+
+accepted : (o : Result Found ℕ) (a : Result (Unit {0}) FindingsFault) → a ≡ answered 0 o → is_ok a ≡ true → (f : Found) × (o ≡ Ok f)
+accepted (Ok f) a e h = (f, refl)
+accepted (Err j) a e h = absurd (true≢false (sym h ∙ ap is_ok e))
+
+module _ (block : List ℕ) (cjs es k l : Room) where
+  -- the lines are the same where the analyses come to the same
+  module _ (a : cjs_of k block ≡ cjs_of cjs block) (b : es_of l block ≡ es_of es block) where
+    findings_same : (line : List ℕ) → FindingsText 0 cjs es block line → FindingsText 0 k l block line
+    findings_same line (refused f v) = refused f v
+    findings_same line (found lawful) =
+        subst (FindingsText 0 k l block) (λ i. digit (is_script (rows block)) ++ (codes " | " ++ (outcome_text 0 (a i) ++ (codes " | " ++ outcome_text 0 (b i))))) (found lawful)
+
+    answers_same : (line : List ℕ) → AnswersText 0 cjs es block line → AnswersText 0 k l block line
+    answers_same line (refused f v) = refused f v
+    answers_same line (found lawful) = subst (AnswersText 0 k l block) (λ i. both_text 0 (text block) (is_script (rows block)) (a i) (b i)) (found lawful)
+
+    line_same : (kind : LineKind) (line : List ℕ) → LineFor kind cjs es block line → LineFor kind k l block line
+    line_same Findings line h = findings_same line h
+    line_same Answers line h = answers_same line h
+
+  -- and where the block is refused
+  line_refused : (f : Fault) → Verdict 0 block (Some f) → (kind : LineKind) (line : List ℕ) → LineFor kind cjs es block line → LineFor kind k l block line
+  line_refused f v Findings line (refused g w) = refused g w
+  line_refused f v Findings line (found lawful) = absurd (refuted block f lawful v)
+  line_refused f v Answers line (refused g w) = refused g w
+  line_refused f v Answers line (found lawful) = absurd (refuted block f lawful v)
+
+line_whole : (block : List ℕ) (s t s' t' : FindingsTables) (r : Result Analyses TreeFault) (k l : Room) → AnalysisOf 0 block s t r s' t' → is_whole r ≡ true → Within (room_of s) k → Within (room_of t) l
+    → (kind : LineKind) (line : List ℕ) → LineFor kind (room_of s) (room_of t) block line → LineFor kind k l block line
+line_whole block s t s' t' (Err e) k l h whole a b kind line m = line_refused block (room_of s) (room_of t) k l _ h.verdict kind line m
+line_whole block s t s' t' (Ok x) k l h whole a b kind line m =
+    let (p, q) = and_parts _ _ whole in
+    let (f, is) = accepted (cjs_of (room_of s) block) x.cjs h.cjs_is.answer p in
+    let (g, so) = accepted (es_of (room_of t) block) x.es h.es_is.answer q in
+    line_same block (room_of s) (room_of t) k l (cjs_same (room_of s) k a block f is) (es_same (room_of t) l b block g so) kind line m
+
+-- a line of what was found in the small tables may be written for the block
+pub small_line : (block : List ℕ) (x y : BlockLines) (r : Result Analyses TreeFault) → InSmall block x r y → (line : List ℕ) → LineFor x.kind (room_of x.small_cjs) (room_of x.small_es) block line → lines_by x block line
+small_line block x y r h line m =
+    line_whole block x.small_cjs x.small_es y.small_cjs y.small_es r (room_of x.cjs) (room_of x.es) h.analysis h.whole (within_so _ _ h.cjs_within) (within_so _ _ h.es_within) x.kind line m
