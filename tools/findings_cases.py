@@ -20,7 +20,8 @@ empty:
 Where a text stands at more than one place of the tree, `a#2` is the second; so is `Assign#2` for rows of a kind. The
 words of a list are written loosely read. A line `let NAME = TREE` gives a name to a part of trees, which `$NAME` stands for.
 
-    findings_cases.py                 compares the model with the answers, and writes the streams and lines to out/
+    findings_cases.py                 compares the model with the answers, and writes stdin and stdout of findings_trials and
+                                      of tight_trials, whose tables have other sizes
     findings_cases.py --run PROGRAM   compares a program with the answers, too
     findings_cases.py --list          prints the number, the name and the line of each case
 """
@@ -38,7 +39,7 @@ from notation import NotATree, tree_of, unescaped
 from tree_model import KINDS, NUMBER
 
 TABLE = pathlib.Path(__file__).resolve().with_suffix(".txt")
-OUT = TABLE.parent.parent / "out"
+CRATES = TABLE.parent.parent / "crates"
 ITEM = re.compile(r'(\(default\)|"(?:[^"\\]|\\.)*"|[^\s="#]+)(?:#(\d+))?')
 LISTS = ("bindings", "exports", "re-exports", "unsafe", "es exports", "es re-exports")
 LINE = re.compile("(" + "|".join(LISTS) + r"|sizes|fault|refused at|es refused at|script|nothing)(?: (.+))?")
@@ -243,22 +244,27 @@ def check_program(program, cases):
     return differences(cases, findings.get, answers.get)
 
 
-def write(name, data):
-    OUT.mkdir(exist_ok=True)
-    (OUT / name).write_bytes(data)
-    print(f"out/{name}: {len(data)} bytes")
+def write(crate, stdin, lines):
+    """Writes the input of a crate of trials, and the lines that it has to print."""
+    (CRATES / crate / "stdin").write_bytes(b"".join(stdin))
+    (CRATES / crate / "stdout").write_text("".join(line + "\n" for line in lines))
 
 
 def write_files(cases):
-    """One stream for ample tables with the lines of both commands. For other tables a stream in which each block stands
-    after five numbers: the four sizes and its length."""
+    """One stream for tables of full size with the lines of both commands. For other tables a stream in which each block
+    stands after five numbers: the four sizes and its length."""
     ample = [case for case in cases if case.sizes == AMPLE]
     tight = [case for case in cases if case.sizes != AMPLE]
-    write("findings_cases.stdin", b"".join(announced(case.block) for case in ample))
-    write("findings_cases.findings", "".join(written_findings(case) + "\n" for case in ample).encode())
-    write("findings_cases.answers", "".join(written_answers(case) + "\n" for case in ample).encode())
-    write("tight_cases.stdin", b"".join(struct.pack("<4I", *case.sizes) + announced(case.block) for case in tight))
-    write("tight_cases.findings", "".join(written_findings(case) + "\n" for case in tight).encode())
+    write(
+        "findings_trials",
+        [announced(case.block) for case in ample],
+        [*map(written_findings, ample), *map(written_answers, ample)],
+    )
+    write(
+        "tight_trials",
+        [struct.pack("<4I", *case.sizes) + announced(case.block) for case in tight],
+        map(written_findings, tight),
+    )
     print(f"{len(ample)} cases with tables of full size, {len(tight)} with others")
 
 
