@@ -1,7 +1,10 @@
--- The columns of the table of kinds, tried at every kind.
-use Rattle.std.proofs.Common.{◌≡◌, ℕ, zero, suc, ◌<◌, false, eqb, get_or, refl, arith}
+-- The columns of the table of kinds, and the kinds by their numbers, tried at every kind.
+use Rattle.std.proofs.Common.{◌≡◌, ℕ, zero, suc, ◌<◌, false, List, [], ◌∷◌, eqb, get_or, slice_index_or, refl, arith}
 use Rattle.std.proofs.lemmas.Bool.{ne_eqb}
 use Rattle.kinds.specs.Kinds.{program}
+use Rattle.kinds.specs.Number.{number}
+use Rattle.kinds.specs.declared.kind.Kind.{Kind}
+use Rattle.kinds.specs.declared.kind.Kind.TheVariants.{Other, Program, Ident, Str, Num, OtherLit, Call, Spread, Member, PrivateName, Computed, Paren, Seq, Assign, Object, KeyValue, Shorthand, Getter, Setter, Method, Function, FnExpr, Arrow, Block, Return, VarDecl, UsingDecl, Declarator, ArrayPat, ObjectPat, KeyValuePat, AssignPatProp, RestPat, AssignPat, Import, ExportAll, ExportDecl, ExportNamed, NamespaceSpec, DefaultSpec, NamedSpec, ExportDefault, TsImportEquals, TsExportAssignment, TsNamespaceExport, ClassDecl, FnDecl, TsEnum, TsModule, TypeDecl}
 use Rattle.kinds.specs.Table.{ColumnsAreTheTable, columns, no_line, table}
 
 -- the rule at every number below n
@@ -24,3 +27,14 @@ columns_are_the_table = record {
   other_marks = λ kind mark no_program. let e : eqb kind program ≡ false = ne_eqb kind program no_program in rw e;
   scripts = refl;
 }
+
+-- the kinds in the order of their numbers
+abbrev pub kinds : List Kind
+kinds = Other ∷ Program ∷ Ident ∷ Str ∷ Num ∷ OtherLit ∷ Call ∷ Spread ∷ Member ∷ PrivateName ∷ Computed ∷ Paren ∷ Seq ∷ Assign ∷ Object ∷ KeyValue ∷ Shorthand ∷ Getter ∷ Setter ∷ Method ∷ Function ∷ FnExpr ∷ Arrow ∷ Block ∷ Return ∷ VarDecl ∷ UsingDecl ∷ Declarator ∷ ArrayPat ∷ ObjectPat ∷ KeyValuePat ∷ AssignPatProp ∷ RestPat ∷ AssignPat ∷ Import ∷ ExportAll ∷ ExportDecl ∷ ExportNamed ∷ NamespaceSpec ∷ DefaultSpec ∷ NamedSpec ∷ ExportDefault ∷ TsImportEquals ∷ TsExportAssignment ∷ TsNamespaceExport ∷ ClassDecl ∷ FnDecl ∷ TsEnum ∷ TsModule ∷ TypeDecl ∷ []
+
+numbered : Below (λ n. number (slice_index_or kinds n Other) ≡ n) 50
+numbered = (refl, (refl, (refl, (refl, (refl, (refl, (refl, (refl, (refl, (refl, (refl, (refl, (refl, (refl, (refl, (refl, (refl, (refl, (refl, (refl, (refl, (refl, (refl, (refl, (refl, (refl, (refl, (refl, (refl, (refl, (refl, (refl, (refl, (refl, (refl, (refl, (refl, (refl, (refl, (refl, (refl, (refl, (refl, (refl, (refl, (refl, (refl, (refl, (refl, (refl, tt))))))))))))))))))))))))))))))))))))))))))))))))))
+
+-- each stands at its number
+pub at_its_number : (n : ℕ) → n < 50 → number (slice_index_or kinds n Other) ≡ n
+at_its_number n h = at (λ k. number (slice_index_or kinds k Other) ≡ k) 50 numbered n h

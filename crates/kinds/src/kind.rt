@@ -62,66 +62,73 @@ pub enum Kind {
 #[derive(Clone, Copy, PartialEq, Eq, Debug)]
 pub struct UnknownKind(pub u32);
 
+/// The kinds in the order of their numbers, once more: Rust has no cast from a number to an enum. The cast the other
+/// way is `Kind::number`.
+static KINDS: [Kind; 50] = [
+    Kind::Other,
+    Kind::Program,
+    Kind::Ident,
+    Kind::Str,
+    Kind::Num,
+    Kind::OtherLit,
+    Kind::Call,
+    Kind::Spread,
+    Kind::Member,
+    Kind::PrivateName,
+    Kind::Computed,
+    Kind::Paren,
+    Kind::Seq,
+    Kind::Assign,
+    Kind::Object,
+    Kind::KeyValue,
+    Kind::Shorthand,
+    Kind::Getter,
+    Kind::Setter,
+    Kind::Method,
+    Kind::Function,
+    Kind::FnExpr,
+    Kind::Arrow,
+    Kind::Block,
+    Kind::Return,
+    Kind::VarDecl,
+    Kind::UsingDecl,
+    Kind::Declarator,
+    Kind::ArrayPat,
+    Kind::ObjectPat,
+    Kind::KeyValuePat,
+    Kind::AssignPatProp,
+    Kind::RestPat,
+    Kind::AssignPat,
+    Kind::Import,
+    Kind::ExportAll,
+    Kind::ExportDecl,
+    Kind::ExportNamed,
+    Kind::NamespaceSpec,
+    Kind::DefaultSpec,
+    Kind::NamedSpec,
+    Kind::ExportDefault,
+    Kind::TsImportEquals,
+    Kind::TsExportAssignment,
+    Kind::TsNamespaceExport,
+    Kind::ClassDecl,
+    Kind::FnDecl,
+    Kind::TsEnum,
+    Kind::TsModule,
+    Kind::TypeDecl,
+];
+
 /// The kind that has a number, or an error where no kind has it.
 impl TryFrom<u32> for Kind {
     type Error = UnknownKind;
 
     ghost try_from_gives = { Decodes };
 
-    // The numbers once more: Rust has no cast from a number to an enum. The cast the other way is `Kind::number`.
     fn try_from(number: u32) -> Result<Self, UnknownKind> {
-        match number {
-            0 => Ok(Kind::Other),
-            1 => Ok(Kind::Program),
-            2 => Ok(Kind::Ident),
-            3 => Ok(Kind::Str),
-            4 => Ok(Kind::Num),
-            5 => Ok(Kind::OtherLit),
-            6 => Ok(Kind::Call),
-            7 => Ok(Kind::Spread),
-            8 => Ok(Kind::Member),
-            9 => Ok(Kind::PrivateName),
-            10 => Ok(Kind::Computed),
-            11 => Ok(Kind::Paren),
-            12 => Ok(Kind::Seq),
-            13 => Ok(Kind::Assign),
-            14 => Ok(Kind::Object),
-            15 => Ok(Kind::KeyValue),
-            16 => Ok(Kind::Shorthand),
-            17 => Ok(Kind::Getter),
-            18 => Ok(Kind::Setter),
-            19 => Ok(Kind::Method),
-            20 => Ok(Kind::Function),
-            21 => Ok(Kind::FnExpr),
-            22 => Ok(Kind::Arrow),
-            23 => Ok(Kind::Block),
-            24 => Ok(Kind::Return),
-            25 => Ok(Kind::VarDecl),
-            26 => Ok(Kind::UsingDecl),
-            27 => Ok(Kind::Declarator),
-            28 => Ok(Kind::ArrayPat),
-            29 => Ok(Kind::ObjectPat),
-            30 => Ok(Kind::KeyValuePat),
-            31 => Ok(Kind::AssignPatProp),
-            32 => Ok(Kind::RestPat),
-            33 => Ok(Kind::AssignPat),
-            34 => Ok(Kind::Import),
-            35 => Ok(Kind::ExportAll),
-            36 => Ok(Kind::ExportDecl),
-            37 => Ok(Kind::ExportNamed),
-            38 => Ok(Kind::NamespaceSpec),
-            39 => Ok(Kind::DefaultSpec),
-            40 => Ok(Kind::NamedSpec),
-            41 => Ok(Kind::ExportDefault),
-            42 => Ok(Kind::TsImportEquals),
-            43 => Ok(Kind::TsExportAssignment),
-            44 => Ok(Kind::TsNamespaceExport),
-            45 => Ok(Kind::ClassDecl),
-            46 => Ok(Kind::FnDecl),
-            47 => Ok(Kind::TsEnum),
-            48 => Ok(Kind::TsModule),
-            49 => Ok(Kind::TypeDecl),
-            _ => Err(UnknownKind(number)),
+        let at = number as usize;
+        if at < KINDS.len() {
+            Ok(KINDS[at])
+        } else {
+            Err(UnknownKind(number))
         }
     }
 }
