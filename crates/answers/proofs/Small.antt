@@ -1,7 +1,7 @@
 -- What is found in small tables without lacking a row is what is found in larger ones.
 use Rattle.std.proofs.Common.{◌≡◌, ℕ, Bool, true, false, List, ◌++◌, Ok, Err, Result, codes, refl, sym, ap, ◌∙◌, subst, true≢false}
 use Rattle.std.proofs.lemmas.Bool.{and_parts}
-use Rattle.std.specs.Prelude.{Some, is_ok}
+use Rattle.std.specs.Prelude.{OnOk, Option, Some, is_ok}
 use Rattle.fault.specs.Line.{digit}
 use Rattle.fault.specs.declared.Fault.{Fault}
 use Rattle.findings.specs.Script.{is_script}
@@ -15,7 +15,8 @@ use Rattle.block_lines.proofs.Rooms.{Within, cjs_same, es_same, within_so}
 use Rattle.block_lines.specs.Analyses.{AnalysisOf, cjs_of, es_of}
 use Rattle.block_lines.specs.Lines.{AnswersText, FindingsText, both_text, found, outcome_text, refused}
 use Rattle.block_lines.specs.declared.analyses.Analyses.{Analyses}
-use Rattle.answers.specs.Answers.{InSmall, LineFor, is_whole, lines_by}
+use Rattle.answers.proofs.Lines.{on_ok}
+use Rattle.answers.specs.Answers.{InSmall, LineFor, Tried, WritesFound, WritesLine, is_whole, lines_by}
 use Rattle.answers.specs.declared.answer.BlockLines.{BlockLines}
 use Rattle.answers.specs.declared.answer.LineKind.{LineKind}
 use Rattle.answers.specs.declared.answer.LineKind.TheVariants.{Answers, Findings}
@@ -68,3 +69,10 @@ line_whole block s t s' t' (Ok x) k l h whole a b kind line m =
 pub small_line : (block : List ℕ) (x y : BlockLines) (r : Result Analyses TreeFault) → InSmall block x r y → (line : List ℕ) → LineFor x.kind (room_of x.small_cjs) (room_of x.small_es) block line → lines_by x block line
 small_line block x y r h line m =
     line_whole block x.small_cjs x.small_es y.small_cjs y.small_es r (room_of x.cjs) (room_of x.es) h.analysis h.whole (within_so _ _ h.cjs_within) (within_so _ _ h.es_within) x.kind line m
+
+-- so it is written for the block
+pub small_written : {E : Type 0} (block : List ℕ) (x y : BlockLines) (r : Result Analyses TreeFault) → Tried block x (Some r) y → (w : Result (Unit {0}) E) (a b : Option (List ℕ)) → OnOk w (WritesFound y.kind r y.small_cjs y.small_es a b) → OnOk w (WritesLine (lines_by x block) a b)
+small_written block x y r tried w a b put =
+    let (small, same) = tried in
+    on_ok w _ _
+    (λ (line, may, wrote). (line, small_line block x y r small line (subst (λ k. LineFor k (room_of x.small_cjs) (room_of x.small_es) block line) same.kind (may block x.small_cjs x.small_es small.analysis)), wrote)) put

@@ -4,12 +4,13 @@ use Rattle.fault.specs.Line.{fault_line}
 use Rattle.findings.specs.Script.{is_script, kind_word, program_kind}
 use Rattle.findings.specs.Tables.{Room}
 use Rattle.block_lines.specs.Analyses.{cjs_of, es_of}
-use Rattle.people.specs.Listed.{outcome_words}
+use Rattle.people.specs.Listed.{listed_text, outcome_words}
 use Rattle.people.specs.declared.names.Rules.TheVariants.{CommonJs, Es}
 use Rattle.tree.specs.Block.{rows, text}
 use Rattle.tree.specs.Verdict.{Lawful, Verdict, describe, reason_words}
 use Rattle.tree.specs.declared.refusal.TreeFault.{TreeFault}
 use Rattle.answers.specs.declared.report.Report.{Report}
+use Rattle.answers.specs.declared.report.WholeReport.{WholeReport}
 
 -- a report gives the refusal that the verdict on the block has; or the block is lawful, and the report tells how many rows it has,
 -- what its program is, and whether that is treated as a script
@@ -37,6 +38,10 @@ report_text (Ok r) = held_text r
 abbrev pub described : Room → List ℕ → Report → List ℕ
 described room block r =
     held_text r ++ (codes "\n" ++ (outcome_words CommonJs 0 (text block) (cjs_of room block) ++ (codes "\n" ++ outcome_words Es 0 (text block) (es_of room block))))
+
+-- the same by what stands in memory
+abbrev pub whole_text : WholeReport → List ℕ
+whole_text x = held_text x.report ++ (codes "\n" ++ (listed_text x.cjs.rules x.cjs.names ++ (codes "\n" ++ listed_text x.es.rules x.es.names)))
 
 -- the words for a block: that it is refused, with the fault's line and its reason; or what it holds and what is listed of it
 pub data Described (room : Room) (block : List ℕ) : List ℕ → Type 0 where

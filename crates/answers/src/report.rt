@@ -2,13 +2,13 @@
 ghost use Rattle.std.specs.Prelude.{◌≡◌, OnOk, Some};
 ghost use Rattle.answers.specs.Answers.{WritesLine};
 ghost use Rattle.answers.specs.Memory.{size_room};
-ghost use Rattle.answers.specs.Report.{Described, ReportOf, held_text, report_text, yes_or_no};
+ghost use Rattle.answers.specs.Report.{Described, ReportOf, held_text, report_text, whole_text, yes_or_no};
 
 use crate::memory::{Sizes, TableMemory};
-use block_lines::{Analyses, analyse};
+use block_lines::analyse;
 use fault::Fault;
 use findings::parsed_source::{ProgramKind, ProgramRef};
-use people::{Rules, listed};
+use people::{ListedNames, Rules, listed};
 use std::alloc::Global;
 use std::io::Write;
 use std::{fmt, io};
@@ -76,16 +76,20 @@ impl fmt::Display for ReportText {
     }
 }
 
-/// The report of a block in which this was found.
-impl From<Analyses<'_>> for Report {
-    ghost from_gives = { λ found report. (report.rows ≡ found.rows) × (report.kind ≡ found.kind) × (report.is_script ≡ found.is_script) };
+/// What a lawful block holds, and what each analysis lists of it.
+#[derive(Clone, Copy)]
+struct WholeReport<'t, 'c, 'e> {
+    report: Report,
+    cjs: ListedNames<'t, 'c>,
+    es: ListedNames<'t, 'e>,
+}
 
-    fn from(found: Analyses<'_>) -> Self {
-        Report {
-            rows: found.rows,
-            kind: found.kind,
-            is_script: found.is_script,
-        }
+/// The report, and then the lists.
+impl fmt::Display for WholeReport<'_, '_, '_> {
+    ghost output = { λ x. Some (whole_text x) };
+
+    fn fmt<W: fmt::Write>(&self, f: &mut fmt::Formatter<W>) -> fmt::Result {
+        write!(f, "{}\n{}\n{}", self.report, self.cjs, self.es)
     }
 }
 
@@ -104,10 +108,15 @@ pub fn write_report<W: Write>(
     let mut es_tables = es_memory.tables();
     match analyse(0, block, &mut cjs_tables, &mut es_tables) {
         Ok(found) => {
-            let report = Report::from(found);
+            let report = Report {
+                rows: found.rows,
+                kind: found.kind,
+                is_script: found.is_script,
+            };
             let cjs = listed(Rules::CommonJs, found.text, found.cjs, &cjs_tables);
             let es = listed(Rules::Es, found.text, found.es, &es_tables);
-            writeln!(output, "{report}\n{cjs}\n{es}")
+            let whole = WholeReport { report, cjs, es };
+            writeln!(output, "{whole}")
         }
         Err(refusal) => writeln!(output, "{}", ReportText(Err(refusal))),
     }
