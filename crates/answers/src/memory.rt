@@ -66,10 +66,22 @@ impl TableMemory {
         ensures { room_of result ≡ memory_room self.old }
     {
         FindingsTables {
-            bindings: OrderedTable { rows: self.bindings.as_mut_slice(), len: 0 },
-            exports: OrderedTable { rows: self.exports.as_mut_slice(), len: 0 },
-            reexports: OrderedTable { rows: self.reexports.as_mut_slice(), len: 0 },
-            unsafes: OrderedTable { rows: self.unsafes.as_mut_slice(), len: 0 },
+            bindings: OrderedTable {
+                rows: self.bindings.as_mut_slice(),
+                len: 0,
+            },
+            exports: OrderedTable {
+                rows: self.exports.as_mut_slice(),
+                len: 0,
+            },
+            reexports: OrderedTable {
+                rows: self.reexports.as_mut_slice(),
+                len: 0,
+            },
+            unsafes: OrderedTable {
+                rows: self.unsafes.as_mut_slice(),
+                len: 0,
+            },
         }
     }
 }

@@ -73,11 +73,17 @@ impl fmt::Display for ListedNames<'_, '_> {
                     text: names.text,
                     rows: names.reexports,
                 };
-                write!(f, "{rules} exports: {exports}\n{rules} re-exports: {reexports}")
+                write!(
+                    f,
+                    "{rules} exports: {exports}\n{rules} re-exports: {reexports}"
+                )
             }
             Err(refusal) => {
                 let fault = Fault::from(refusal);
-                write!(f, "{rules} rules: {fault}: a table has no row left for what is found at this place")
+                write!(
+                    f,
+                    "{rules} rules: {fault}: a table has no row left for what is found at this place"
+                )
             }
         }
     }

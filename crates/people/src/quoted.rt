@@ -49,11 +49,7 @@ fn write_bytes<W: fmt::Write>(text: &[u8], f: &mut fmt::Formatter<W>) -> fmt::Re
 }
 
 /// Writes a name on a line of its own, between quotes.
-fn write_name<W: fmt::Write>(
-    text: &[u8],
-    name: &Place,
-    f: &mut fmt::Formatter<W>,
-) -> fmt::Result
+fn write_name<W: fmt::Write>(text: &[u8], name: &Place, f: &mut fmt::Formatter<W>) -> fmt::Result
     ensures { WritesOnOk W.write_str_gives f.old result (name_line text.now name.now) f.new }
 {
     f.write_str("\n    \"")?;

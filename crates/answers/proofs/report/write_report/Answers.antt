@@ -12,7 +12,7 @@ returns-in-Ok g c =
     let cjs = listed_text c.listed-cjs.result.rules c.listed-cjs.result.names in
     let es = listed_text c.listed-es.result.rules c.listed-es.result.names in
     let told = reported c.args.block.now c.tables-cjs_tables.result c.tables-es_tables.result c.analyse.new.cjs c.analyse.new.es found (size_room c.args.sizes) c.in-Ok.ensures
-      (c.tables-cjs_tables.ensures ∙ c.in_ok-cjs_memory.ensures) (c.tables-es_tables.ensures ∙ c.in_ok-es_memory.ensures) cjs es c.listed-cjs.ensures.lists c.listed-es.ensures.lists in
+    (c.tables-cjs_tables.ensures ∙ c.in_ok-cjs_memory.ensures) (c.tables-es_tables.ensures ∙ c.in_ok-es_memory.ensures) cjs es c.listed-cjs.ensures.lists c.listed-es.ensures.lists in
     on_ok c.writeln.result _ _ (λ put. (_, told, put)) c.writeln.ensures.bytes
 
 pub returns : goal.returns
