@@ -6,7 +6,7 @@ use Rattle.std.specs.Io.KnownBytes.{Appends}
 use Rattle.fault.specs.Line.{fault_line, found_or_fault, line_shown, line_text}
 use Rattle.fault.specs.declared.Fault.{Fault}
 use Rattle.findings.proofs.Leaving.{lenders_kept, own_lenders}
-use Rattle.findings.specs.Tables.{Room, SameLenders, room_of}
+use Rattle.findings.specs.Tables.{Hold, Room, SameLenders, kept, room_of}
 use Rattle.findings.specs.declared.tables.FindingsTables.{FindingsTables}
 use Rattle.tree.specs.Verdict.{Verdict}
 use Rattle.tree.specs.declared.refusal.TreeFault.{TreeFault}
@@ -16,7 +16,8 @@ use Rattle.block_lines.specs.Lines.{AnswersLineOf, AnswersText, FindingsLineOf, 
 use Rattle.block_lines.specs.declared.analyses.Analyses.{Analyses}
 use Rattle.answers.specs.Answers.{FoundLine, InSmall, LineFor, LinesAfter, MayHave, OtherwiseSame, TablesAfter, WritesFound, WritesLine, is_whole, line_end, lines_by}
 use Rattle.answers.specs.Answers.TablesAfter.{analysed, refused as as_before}
-use Rattle.answers.specs.Stream.{SameLines}
+use Rattle.answers.specs.Stream.{LeftBySome, SameLines, TablesKept, by_block, untouched}
+use Rattle.block_lines.specs.Analyses.{cjs_of, es_of}
 use Rattle.answers.specs.declared.answer.BlockLines.{BlockLines}
 use Rattle.answers.specs.declared.answer.LineKind.{LineKind}
 use Rattle.answers.specs.declared.answer.LineKind.TheVariants.{Answers, Findings}
@@ -48,43 +49,66 @@ pub tables_after : (block : List ℕ) (s t s' t' : FindingsTables) (r : Result A
 tables_after block s t s' t' (Ok a) h = analysed h.lawful h.cjs_is.tables h.es_is.tables
 tables_after block s t s' t' (Err e) h = as_before _ h.verdict h.cjs_is h.es_is
 
-record Kept (s s' : FindingsTables) : Type 0 where
-  pub lenders : SameLenders s s'
-  pub room : room_of s' ≡ room_of s
+module _ (s t : FindingsTables) where
+  -- left alone, then, or filled
+  kept_alone : (s' t' : FindingsTables) → s' ≡ s → t' ≡ t → TablesKept s t s' t'
+  kept_alone s' t' a b =
+      subst (λ u. TablesKept s t u t') (sym a)
+      (subst (TablesKept s t s) (sym b) (record { lenders = (own_lenders s, own_lenders t); cjs_room = refl; es_room = refl; left = untouched refl refl }))
 
-as_it_was : (s s' : FindingsTables) → s' ≡ s → Kept s s'
-as_it_was s s' e = subst (Kept s) (sym e) (record { lenders = own_lenders s; room = refl })
+  kept_after : (block : List ℕ) (s' t' : FindingsTables) → TablesAfter block s t s' t' → TablesKept s t s' t'
+  kept_after block s' t' (as_before f v a b) = kept_alone s' t' a b
+  kept_after block s' t' (analysed lawful a b) =
+      record {
+        lenders = (a.lenders, b.lenders);
+        cjs_room = cjs_room_kept block s s' a;
+        es_room = es_room_kept block t t' b;
+        left = by_block block lawful a.holds b.holds;
+      }
 
-both_kept : (block : List ℕ) (s t s' t' : FindingsTables) → TablesAfter block s t s' t' → Kept s s' × Kept t t'
-both_kept block s t s' t' (as_before f v a b) = (as_it_was s s' a, as_it_was t t' b)
-both_kept block s t s' t' (analysed l a b) = (record { lenders = a.lenders; room = cjs_room_kept block s s' a }, record { lenders = b.lenders; room = es_room_kept block t t' b })
+  kept_anyway : (block : List ℕ) (s' t' : FindingsTables) → MayHave block s t s' t' → TablesKept s t s' t'
+  kept_anyway block s' t' h = ⊎_elim (λ same. kept_alone s' t' same.0 same.1) (kept_after block s' t') h
 
-may_keep : (block : List ℕ) (s t s' t' : FindingsTables) → MayHave block s t s' t' → Kept s s' × Kept t t'
-may_keep block s t s' t' h = ⊎_elim (λ same. (as_it_was s s' same.0, as_it_was t t' same.1)) (both_kept block s t s' t') h
+  left_again : (u v p q : FindingsTables) → room_of u ≡ room_of s → room_of v ≡ room_of t → LeftBySome s t u v → LeftBySome u v p q → LeftBySome s t p q
+  left_again u v p q e f a (untouched x y) = subst (λ m. LeftBySome s t m q) (sym x) (subst (LeftBySome s t u) (sym y) a)
+  left_again u v p q e f a (by_block block lawful h k) =
+      by_block block lawful (subst (λ r. Hold r (kept (cjs_of r block)) p) e h) (subst (λ r. Hold r (kept (es_of r block)) q) f k)
+
+  kept_again : (u v p q : FindingsTables) → TablesKept s t u v → TablesKept u v p q → TablesKept s t p q
+  kept_again u v p q a b =
+      record {
+        lenders = (lenders_kept s u p a.lenders.0 b.lenders.0, lenders_kept t v q a.lenders.1 b.lenders.1);
+        cjs_room = b.cjs_room ∙ a.cjs_room;
+        es_room = b.es_room ∙ a.es_room;
+        left = left_again u v p q a.cjs_room a.es_room a.left b.left;
+      }
 
 pub same_lines : (block : List ℕ) (x y : BlockLines) → LinesAfter block x y → SameLines x y
 same_lines block x y after =
-    let (cjs, es) = may_keep block x.cjs x.es y.cjs y.es after.large in
-    let (small_cjs, small_es) = may_keep block x.small_cjs x.small_es y.small_cjs y.small_es after.small in
-    record { kind = after.kind; cjs = cjs.lenders; es = es.lenders; small_cjs = small_cjs.lenders; small_es = small_es.lenders; cjs_room = cjs.room; es_room = es.room }
+    record {
+      kind = after.kind;
+      large = kept_anyway x.cjs x.es block y.cjs y.es after.large;
+      small = kept_anyway x.small_cjs x.small_es block y.small_cjs y.small_es after.small;
+    }
 
 pub same_itself : (x : BlockLines) → SameLines x x
-same_itself x = record { kind = refl; cjs = own_lenders x.cjs; es = own_lenders x.es; small_cjs = own_lenders x.small_cjs; small_es = own_lenders x.small_es; cjs_room = refl; es_room = refl }
+same_itself x =
+    record {
+      kind = refl;
+      large = kept_alone x.cjs x.es x.cjs x.es refl refl;
+      small = kept_alone x.small_cjs x.small_es x.small_cjs x.small_es refl refl;
+    }
 
 pub same_after : (x y z : BlockLines) → SameLines x y → SameLines y z → SameLines x z
 same_after x y z a b =
     record {
       kind = b.kind ∙ a.kind;
-      cjs = lenders_kept x.cjs y.cjs z.cjs a.cjs b.cjs;
-      es = lenders_kept x.es y.es z.es a.es b.es;
-      small_cjs = lenders_kept x.small_cjs y.small_cjs z.small_cjs a.small_cjs b.small_cjs;
-      small_es = lenders_kept x.small_es y.small_es z.small_es a.small_es b.small_es;
-      cjs_room = b.cjs_room ∙ a.cjs_room;
-      es_room = b.es_room ∙ a.es_room;
+      large = kept_again x.cjs x.es y.cjs y.es z.cjs z.es a.large b.large;
+      small = kept_again x.small_cjs x.small_es y.small_cjs y.small_es z.small_cjs z.small_es a.small b.small;
     }
 
 -- so the lines that may be written are the same
 pub lines_of_same : (x y : BlockLines) (block line : List ℕ) → SameLines x y → lines_by y block line → lines_by x block line
 lines_of_same x y block line same h =
     subst (λ k. LineFor k (room_of x.cjs) (room_of x.es) block line) same.kind
-    (subst (λ r. LineFor y.kind r (room_of x.es) block line) same.cjs_room (subst (λ r. LineFor y.kind (room_of y.cjs) r block line) same.es_room h))
+    (subst (λ r. LineFor y.kind r (room_of x.es) block line) same.large.cjs_room (subst (λ r. LineFor y.kind (room_of y.cjs) r block line) same.large.es_room h))

@@ -1,7 +1,10 @@
 -- A stream of blocks, each after its length: what is read of it, and the lines that it gets.
 use Rattle.std.specs.Prelude.{◌≡◌, ℕ, ◌-◌, ◌^◌, ◌≤◌, ◌<◌, Bool, true, false, cond, List, [], ◌++◌, length, ◌==◌, nat_le, nat_lt, Option, Some, None, Result, Ok, Err, IfSome, codes}
 use Rattle.std.specs.Io.KnownBytes.{Appends, Consumes, IsAtEnd}
-use Rattle.findings.specs.Tables.{Room, SameLenders, room_of}
+use Rattle.findings.specs.Tables.{Hold, SameLenders, kept, room_of}
+use Rattle.findings.specs.declared.tables.FindingsTables.{FindingsTables}
+use Rattle.tree.specs.Verdict.{Lawful}
+use Rattle.block_lines.specs.Analyses.{cjs_of, es_of}
 use Rattle.text.specs.Number.{le32}
 use Rattle.answers.specs.Answers.{WritesLine, line_end}
 use Rattle.answers.specs.declared.answer.BlockLines.{BlockLines}
@@ -50,15 +53,23 @@ WritesLines Answers old new xs = (lines : List ℕ) × LinesOf Answers xs lines 
 abbrev pub AnswersAll : (List ℕ → List ℕ → Type 0) → Option (List ℕ) → Option (List ℕ) → Option (List ℕ) → Type 0
 AnswersAll Answers input old new = IfSome input (λ xs. length xs < 2 ^ 64 - 1 → WritesLines Answers old new xs)
 
--- the lines are of the same kind, and the tables have the rows that were lent, as many as before
-pub record SameLines (s t : BlockLines) : Type 0 where
-  pub kind : t.kind ≡ s.kind
-  pub cjs : SameLenders s.cjs t.cjs
-  pub es : SameLenders s.es t.es
-  pub small_cjs : SameLenders s.small_cjs t.small_cjs
-  pub small_es : SameLenders s.small_es t.small_es
-  pub cjs_room : room_of t.cjs ≡ room_of s.cjs
-  pub es_room : room_of t.es ≡ room_of s.es
+-- tables which were s and t are as they were, or as the analyses of some lawful block leave them
+pub data LeftBySome (s t s' t' : FindingsTables) : Type 0 where
+  untouched : s' ≡ s → t' ≡ t → LeftBySome s t s' t'
+  by_block : (block : List ℕ) → Lawful block → Hold (room_of s) (kept (cjs_of (room_of s) block)) s' → Hold (room_of t) (kept (es_of (room_of t) block)) t' → LeftBySome s t s' t'
+
+-- tables have the rows that were lent, as many as before, and hold what they held or what the analyses of some block leave
+pub record TablesKept (s t s' t' : FindingsTables) : Type 0 where
+  pub lenders : SameLenders s s' × SameLenders t t'
+  pub cjs_room : room_of s' ≡ room_of s
+  pub es_room : room_of t' ≡ room_of t
+  pub left : LeftBySome s t s' t'
+
+-- the lines are of the same kind, and so kept are the tables
+pub record SameLines (x y : BlockLines) : Type 0 where
+  pub kind : y.kind ≡ x.kind
+  pub large : TablesKept x.cjs x.es y.cjs y.es
+  pub small : TablesKept x.small_cjs x.small_es y.small_cjs y.small_es
 
 -- a reader ended after these bytes
 abbrev pub EndsAfter : Option (List ℕ) → Option (List ℕ) → List ℕ → Type 0

@@ -27,3 +27,18 @@ returns-in-Err-CutShort-clause-all g c =
     let next = answered_by (lines_by c.loop.lines) (lines_by c.args.lines.now) (λ block line. lines_of_same c.args.lines.now c.loop.lines block line same)
     (g.R.Read.remaining c.loop.input) (g.R.Read.remaining c.answer_next.new.input) (g.W.Write.contents c.loop.output) (g.W.Write.contents c.answer_next.new.output) (Err c.in-Err-CutShort.field-0) c.in-Err-CutShort.ensures.next in
     on_ok c.writeln.result _ _ (λ last. so_far_cut (lines_by c.args.lines.now) _ _ _ _ _ _ _ so _ _ c.in-Err-CutShort.cut c.in-Err-CutShort.field-0-is next last) c.writeln.ensures.bytes
+
+pub returns-in-Ok-false-clause-kept : goal.returns-in-Ok-false-clause-kept
+returns-in-Ok-false-clause-kept g c =
+    let (so, same) = c.loop.invariant in
+    same_after c.args.lines.now c.loop.lines c.answer_next.new.lines same c.answer_next.ensures.kept
+
+pub returns-in-Err-CutShort-clause-kept : goal.returns-in-Err-CutShort-clause-kept
+returns-in-Err-CutShort-clause-kept g c =
+    let (so, same) = c.loop.invariant in
+    same_after c.args.lines.now c.loop.lines c.answer_next.new.lines same c.answer_next.ensures.kept
+
+pub returns-in-Err-Io-clause-kept : goal.returns-in-Err-Io-clause-kept
+returns-in-Err-Io-clause-kept g c =
+    let (so, same) = c.loop.invariant in
+    same_after c.args.lines.now c.loop.lines c.answer_next.new.lines same c.answer_next.ensures.kept
