@@ -1,20 +1,20 @@
 -- The line of a block as it is written, and the tables after it.
-use Rattle.std.proofs.Common.{◌≡◌, ℕ, List, ◌++◌, Result, refl, sym, ap, ◌∙◌, subst, ⊎_elim, inl, inr}
+use Rattle.std.proofs.Common.{◌≡◌, ℕ, List, ◌++◌, Result, refl, sym, ◌∙◌, subst, ⊎_elim}
 use Rattle.std.specs.Prelude.{Option, Some, Ok, Err, IfSome, OnOk}
 use Rattle.std.specs.Fmt.{◌++?◌}
 use Rattle.std.specs.Io.KnownBytes.{Appends}
 use Rattle.fault.specs.Line.{fault_line, found_or_fault, line_shown, line_text}
 use Rattle.fault.specs.declared.Fault.{Fault}
 use Rattle.findings.proofs.Leaving.{lenders_kept, own_lenders}
-use Rattle.findings.specs.Tables.{Hold, Room, SameLenders, kept, room_of}
+use Rattle.findings.specs.Tables.{Hold, Room, kept, room_of}
 use Rattle.findings.specs.declared.tables.FindingsTables.{FindingsTables}
 use Rattle.tree.specs.Verdict.{Verdict}
 use Rattle.tree.specs.declared.refusal.TreeFault.{TreeFault}
 use Rattle.block_lines.proofs.Rooms.{cjs_room_kept, es_room_kept}
 use Rattle.block_lines.specs.Analyses.{AnalysisOf}
-use Rattle.block_lines.specs.Lines.{AnswersLineOf, AnswersText, FindingsLineOf, FindingsText, refused}
+use Rattle.block_lines.specs.Lines.{AnswersLineOf, FindingsLineOf, refused}
 use Rattle.block_lines.specs.declared.analyses.Analyses.{Analyses}
-use Rattle.answers.specs.Answers.{FoundLine, InSmall, LineFor, LinesAfter, MayHave, OtherwiseSame, TablesAfter, WritesFound, WritesLine, is_whole, line_end, lines_by}
+use Rattle.answers.specs.Answers.{FoundLine, LineFor, LinesAfter, MayHave, TablesAfter, WritesFound, line_end, lines_by}
 use Rattle.answers.specs.Answers.TablesAfter.{analysed, refused as as_before}
 use Rattle.answers.specs.Stream.{LeftBySome, SameLines, TablesKept, by_block, untouched}
 use Rattle.block_lines.specs.Analyses.{cjs_of, es_of}

@@ -1,8 +1,7 @@
 -- The words for a block are those of what was found in it.
-use Rattle.std.proofs.Common.{◌≡◌, ℕ, List, ◌++◌, codes, refl, sym, ◌∙◌, subst}
+use Rattle.std.proofs.Common.{◌≡◌, ℕ, List, ◌++◌, codes, sym, ◌∙◌, subst}
 use Rattle.findings.specs.Tables.{Room, room_of}
 use Rattle.findings.specs.declared.tables.FindingsTables.{FindingsTables}
-use Rattle.tree.specs.Block.{text}
 use Rattle.block_lines.specs.Analyses.{Analysis, cjs_of, es_of}
 use Rattle.block_lines.specs.declared.analyses.Analyses.{Analyses}
 use Rattle.people.specs.Listed.{Lists, outcome_words}

@@ -1,13 +1,13 @@
 -- What a stream gave, in parts: a part after another, and the lines of all.
 use Rattle.std.proofs.Common.{◌≡◌, ℕ, ◌+◌, ◌≤◌, ◌<◌, Bool, true, false, cond, List, [], ◌++◌, codes, length, length-append, append_assoc, append-nil, nat_le, refl, sym, ap, ◌∙◌, subst, arith, true≢false}
 use Rattle.std.proofs.lemmas.Bool.{leb-false}
-use Rattle.std.specs.Prelude.{Option, Some, None, Result, Ok, Err, IfSome, OnOk, IsErrAnd}
+use Rattle.std.specs.Prelude.{Option, Some, None, Result, Ok, Err, IfSome, IsErrAnd}
 use Rattle.std.specs.declared.io.Error.{Error}
-use Rattle.std.specs.Io.KnownBytes.{Appends, Consumes, IsAtEnd}
+use Rattle.std.specs.Io.KnownBytes.{Appends, Consumes}
 use Rattle.std.proofs.KnownBytes.{Appends-nil, Appends-trans, Consumes-nil, Consumes-trans}
 use Rattle.text.specs.Number.{le32}
 use Rattle.answers.specs.Answers.{WritesLine, line_end}
-use Rattle.answers.specs.Stream.{AnswersAll, WritesLines, CutStream, EndsAfter, LinesOf, NextAnswered, NextLength, Takes, sized}
+use Rattle.answers.specs.Stream.{AnswersAll, WritesLines, EndsAfter, LinesOf, NextAnswered, NextLength, Takes, sized}
 use Rattle.answers.specs.Stream.CutStream.{in_length, in_block}
 use Rattle.answers.specs.Stream.LinesOf.{block, cut, none}
 use Rattle.answers.specs.declared.stream.CutShort.{CutShort as CutRecord}

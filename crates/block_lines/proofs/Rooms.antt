@@ -1,8 +1,7 @@
 -- What an analysis comes to has room in its tables, so they have as many rows after it as before.
-use Rattle.std.proofs.Common.{◌≡◌, ℕ, ◌≤◌, ◌+◌, Bool, true, false, cond, le_trans, List, [], ◌∷◌, ◌++◌, length, filter, Ok, Err, Result, sym, refl, ap, ◌∙◌, subst, ⊎_elim, arith, le-leb, leb-true}
+use Rattle.std.proofs.Common.{◌≡◌, ℕ, ◌≤◌, Bool, true, le_trans, List, [], ◌∷◌, ◌++◌, length, filter, Ok, Err, Result, sym, refl, ◌∙◌, subst, ⊎_elim, arith, le-leb, leb-true}
 use Rattle.std.proofs.lemmas.Bool.{and_parts, cases_Bool, cond-false, cond-true}
 use Rattle.std.proofs.lemmas.List.Sums.{length-filter, count_by-le-length}
-use Rattle.tree.specs.declared.row.Row.{Row}
 use Rattle.tree.specs.Forest.{Forest, nil, node}
 use Rattle.text.specs.declared.place.Place.{Place}
 use Rattle.findings.proofs.Leaving.{room_held}
@@ -10,11 +9,11 @@ use Rattle.findings.specs.Tables.{Found, Leaves, Room, kept, nothing, room_of}
 use Rattle.findings.specs.declared.tables.FindingsTables.{FindingsTables}
 use Rattle.cjs_rules.specs.Nodes.{Node}
 use Rattle.cjs_law.proofs.Stands.{fits_so, so_fits}
-use Rattle.cjs_law.specs.Findings.{Fits, fits, held, outcome, outcome_after, safe}
+use Rattle.cjs_law.specs.Findings.{Fits, fits, held, outcome_after, safe}
 use Rattle.cjs_law.specs.Walk.{Act}
 use Rattle.exports.specs.Beyond.{item_names}
 use Rattle.exports.specs.ExportedNames.{star_of}
-use Rattle.exports.specs.Listing.{es_outcome, has_enough_room, items, listed, listing}
+use Rattle.exports.specs.Listing.{has_enough_room, listed, listing}
 use Rattle.block_lines.specs.Analyses.{cjs_of, es_of}
 use Rattle.block_lines.specs.Rooms.{is_within}
 

@@ -12,8 +12,8 @@ use Rattle.lines.specs.declared.places.Lists.{Lists}
 use Rattle.tree.specs.Block.{rows, text}
 use Rattle.tree.specs.Verdict.{describe}
 use Rattle.tree.specs.declared.refusal.TreeFault.{TreeFault}
-use Rattle.block_lines.specs.Analyses.{Analysis, AnalysisOf, Refusal, cjs_of, es_of}
-use Rattle.block_lines.specs.Lines.{AnswersLineOf, AnswersText, FindingsLineOf, FindingsText, NamesOf, PartOf, answers_found, answers_text, findings_found, findings_text, found, names_of, refused}
+use Rattle.block_lines.specs.Analyses.{Analysis, Refusal, cjs_of, es_of}
+use Rattle.block_lines.specs.Lines.{AnswersText, FindingsText, NamesOf, PartOf, answers_found, answers_text, findings_found, findings_text, found, names_of, refused}
 use Rattle.block_lines.specs.declared.analyses.Analyses.{Analyses}
 use Rattle.block_lines.specs.declared.line.Report.{Report}
 use Rattle.block_lines.specs.declared.line.Names.{Names}

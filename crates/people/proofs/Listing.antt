@@ -1,12 +1,11 @@
 -- The words of what an analysis leaves are those of what it comes to.
-use Rattle.std.proofs.Common.{◌≡◌, ℕ, List, Ok, Err, Result, refl, sym, ap, ◌∙◌, subst}
+use Rattle.std.proofs.Common.{◌≡◌, ℕ, List, Ok, Err, Result, ap, ◌∙◌, subst}
 use Rattle.table.proofs.Entered.{take_left}
-use Rattle.findings.specs.Tables.{Analysed, Found, Hold, answered, kept, room_of}
+use Rattle.findings.specs.Tables.{Found, Hold, answered, kept, room_of}
 use Rattle.findings.specs.declared.refusal.FindingsFault.{FindingsFault}
-use Rattle.findings.specs.declared.refusal.FindingsFault.TheVariants.{Full}
 use Rattle.findings.specs.declared.tables.FindingsTables.{FindingsTables}
 use Rattle.block_lines.specs.declared.line.Names.{Names}
-use Rattle.people.specs.Listed.{Lists, NamesListed, listed_text, names_words, outcome_words, refusal_words}
+use Rattle.people.specs.Listed.{Lists, NamesListed, listed_text, names_words, outcome_words}
 use Rattle.people.specs.declared.names.Rules.{Rules}
 
 pub lists_outcome : (rules : Rules) (T : List ℕ) (a : Result (Unit {0}) FindingsFault) (t : FindingsTables) (r : Result Names FindingsFault) → NamesListed T a t r → Lists rules T a t (listed_text rules r)

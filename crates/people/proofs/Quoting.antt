@@ -1,5 +1,5 @@
 -- A name as it is written byte by byte, and names one by one.
-use Rattle.std.proofs.Common.{◌≡◌, ℕ, ◌+◌, ◌<◌, ◌≤◌, ◌^◌, ◌-◌, Bool, true, false, List, [], ◌∷◌, ◌++◌, length, get_or, drop, Some, Ok, Result, codes, option_map, refl, sym, ap, ◌∙◌, subst, arith, leb-true}
+use Rattle.std.proofs.Common.{◌≡◌, ℕ, ◌+◌, ◌<◌, ◌≤◌, ◌^◌, ◌-◌, true, false, List, [], ◌∷◌, length, get_or, drop, Some, Ok, Result, option_map, ap, ◌∙◌, subst, arith, leb-true}
 use Rattle.std.specs.Prelude.{◌&&◌, ◌==◌, nat_le, not}
 use Rattle.std.specs.Fmt.{DisplaysOnOk, WritesOnOk, digits, digits_output, format_spec, padded_integral, radix_prefix, shown_prefix, styled_digits_output}
 use Rattle.std.specs.declared.fmt.Formatter.{Formatter}

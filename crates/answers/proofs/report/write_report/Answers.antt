@@ -1,8 +1,8 @@
-use Rattle.std.proofs.Common.{◌++◌, ◌∙◌, codes, Err}
+use Rattle.std.proofs.Common.{◌∙◌, Err}
 use Rattle.answers.proofs.Lines.{on_ok}
 use Rattle.answers.proofs.Reported.{reported}
 use Rattle.answers.specs.Memory.{size_room}
-use Rattle.answers.specs.Report.{held_text, refused, report_text}
+use Rattle.answers.specs.Report.{refused, report_text}
 use Rattle.people.specs.Listed.{listed_text}
 use Rattle.answers.proofs.report.write_report.Goals as goal
 
