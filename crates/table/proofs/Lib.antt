@@ -3,3 +3,5 @@ pub mod Rising
 pub mod Entered
 mod Removes
 mod Zeros
+mod Standing
+mod Members

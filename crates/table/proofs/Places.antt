@@ -8,14 +8,14 @@ use Rattle.table.specs.Order.{TotalOrder}
 use Rattle.table.specs.Table.{later, place}
 
 module _ {X K : Type 0} (o : K → K → Ordering) (key : X → K) (k : K) where
-  place_err : (xs : List X) (i : ℕ) → i ≤ length xs → ((j : ℕ) (d : X) → j < i → o k (key (get_or xs j d)) ≡ Greater) → ((d : X) → i < length xs → o k (key (get_or xs i d)) ≡ Less) → place o k (map key xs) ≡ Err i
+  pub place_err : (xs : List X) (i : ℕ) → i ≤ length xs → ((j : ℕ) (d : X) → j < i → o k (key (get_or xs j d)) ≡ Greater) → ((d : X) → i < length xs → o k (key (get_or xs i d)) ≡ Less) → place o k (map key xs) ≡ Err i
   place_err [] i le above below = let e : i ≡ 0 = omega arith in ap Err (sym e)
   place_err (x ∷ xs) zero le above below = ap (λ r. match_ordering r (Err 0) (Ok 0) (later (place o k (map key xs)))) (below x (omega arith))
   place_err (x ∷ xs) (suc i) le above below =
       ap (λ r. match_ordering r (Err 0) (Ok 0) (later (place o k (map key xs)))) (above zero x (omega arith))
       ∙ ap later (place_err xs i (omega arith) (λ j d h. above (suc j) d (omega arith)) (λ d h. below d (omega arith)))
 
-  place_ok : (xs : List X) (i : ℕ) → i < length xs → ((j : ℕ) (d : X) → j < i → o k (key (get_or xs j d)) ≡ Greater) → ((d : X) → o k (key (get_or xs i d)) ≡ Equal) → place o k (map key xs) ≡ Ok i
+  pub place_ok : (xs : List X) (i : ℕ) → i < length xs → ((j : ℕ) (d : X) → j < i → o k (key (get_or xs j d)) ≡ Greater) → ((d : X) → o k (key (get_or xs i d)) ≡ Equal) → place o k (map key xs) ≡ Ok i
   place_ok [] i lt above at = absurd (omega arith)
   place_ok (x ∷ xs) zero lt above at = ap (λ r. match_ordering r (Err 0) (Ok 0) (later (place o k (map key xs)))) (at x)
   place_ok (x ∷ xs) (suc i) lt above at =

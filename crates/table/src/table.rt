@@ -3,6 +3,7 @@ ghost use Rattle.std.specs.Prelude.{◌≡◌, ℕ, ◌≤◌, List, [], ◌∷�
 ghost use Rattle.std.specs.List.{insert};
 ghost use Rattle.std.specs.List.Sorted.{IsSearchInRange};
 ghost use Rattle.table.specs.Kind.{Appended, Enters, Inserts, Leaves, Ordered, Puts, Removes, held, place_in};
+ghost use Rattle.table.specs.Laws.{InsertAddsNewKeys, PlaceStandsOrBelongs, PutReplacesItsKey, RemovalLeavesOtherKeys};
 ghost use Rattle.table.specs.Order.{TotalOrder};
 ghost use Rattle.table.specs.Table.{Rest};
 
@@ -39,6 +40,7 @@ impl<R: Row> OrderedTable<'_, R> {
         ensures place { result ≡ place_in R.Row.kind (R.Row.kind.key from.now needle.now) text.now self.now }
         ensures within { IsSearchInRange result self.now.len }
         ensures total { TotalOrder R.Row.kind.order }
+        ensures stands { PlaceStandsOrBelongs R.Row.kind.order }
     {
         self.held()
             .binary_search_by(|row| row.compare(text, needle, from))
@@ -64,6 +66,7 @@ impl<R: Row> OrderedTable<'_, R> {
         requires { Ordered R.Row.kind text.now self.old }
         ensures after { Inserts R.Row.kind text.now row self.old result self.new }
         ensures held { Ordered R.Row.kind text.now self.new }
+        ensures members { InsertAddsNewKeys R.Row.kind.order (R.Row.kind.key text.now) }
     {
         match self.find(text, &row, text) {
             Ok(_) => Ok(false),
@@ -77,6 +80,7 @@ impl<R: Row> OrderedTable<'_, R> {
         requires { Ordered R.Row.kind text.now self.old }
         ensures after { Puts R.Row.kind text.now row self.old result self.new }
         ensures held { Ordered R.Row.kind text.now self.new }
+        ensures members { PutReplacesItsKey R.Row.kind.order (R.Row.kind.key text.now) }
     {
         // `insert` differs in this arm alone, which as a closure would want a clause longer than itself.
         match self.find(text, &row, text) {
@@ -113,6 +117,7 @@ impl<R: Row> OrderedTable<'_, R> {
         requires others { Ordered R.Row.kind text.now other.now }
         ensures after { Removes R.Row.kind text.now other.now self.old self.new }
         ensures held { Ordered R.Row.kind text.now self.new }
+        ensures members { RemovalLeavesOtherKeys R.Row.kind.order (R.Row.kind.key text.now) }
     {
         let kept = sift(&mut self.rows[..self.len], text, other);
         empty(&mut self.rows[kept..]);

@@ -1,6 +1,7 @@
 use Rattle.std.proofs.Common.{refl}
 use Rattle.std.proofs.lemmas.List.{set-get_or}
 use Rattle.table.proofs.Entered.{at_new_place, in_its_place}
+use Rattle.table.proofs.Members.{insert_adds}
 use Rattle.table.proofs.table.OrderedTable.insert.Goals as goal
 
 pub returns-in-Ok-clause-after : goal.returns-in-Ok-clause-after
@@ -13,4 +14,7 @@ returns-in-Ok-clause-after g c =
 pub returns-in-Err : goal.returns-in-Err
 returns-in-Err g c =
     let grown = at_new_place (λ r x. x) c.requires g.met.R.Row.total (λ r x e. refl) c.args.row c.in-Err.i c.in-Err.ensures.place c.enter.result c.enter.new.self.len c.enter.new.self.rows.now c.enter.ensures.rows in
-    record { after = record { rows = grown.0; lender = c.enter.ensures.lender }; held = grown.1 }
+    record { after = record { rows = grown.0; lender = c.enter.ensures.lender }; held = grown.1; members = insert_adds g.R.Row.kind.order (g.R.Row.kind.key c.args.text.now) g.met.R.Row.total }
+
+pub returns-in-Ok-clause-members : goal.returns-in-Ok-clause-members
+returns-in-Ok-clause-members g c = insert_adds g.R.Row.kind.order (g.R.Row.kind.key c.args.text.now) g.met.R.Row.total
