@@ -1,0 +1,529 @@
+//! Lawful trees, biased to the rules: the shapes that a rule asks for, with other things in their places at times.
+
+use crate::random::Random;
+use crate::texts::{name, string, variable, word};
+use crate::twist::twist;
+use blocks::kinds::{Group, TextForm};
+use blocks::{Kind, Tree};
+
+/// Makes trees one after the other.
+pub struct Generator {
+    pub random: Random,
+}
+
+fn row<const N: usize>(kind: Kind, children: [Tree; N]) -> Tree {
+    Tree::new(kind, children.into())
+}
+
+fn ident(text: impl AsRef<[u8]>) -> Tree {
+    Tree::text(Kind::Ident, text)
+}
+
+fn call(callee: Tree, arguments: Vec<Tree>) -> Tree {
+    Tree::new(Kind::Call, [vec![callee], arguments].concat())
+}
+
+impl Generator {
+    pub fn new(seed: u64) -> Generator {
+        Generator { random: Random::new(seed) }
+    }
+
+    /// A tree, lawful but for a few that are too deep.
+    pub fn tree(&mut self) -> Tree {
+        let mut tree = self.program();
+        if self.random.percent(60) {
+            for _ in 0..self.random.between(1, 3) {
+                tree = twist(self, tree);
+            }
+        }
+        tree
+    }
+
+    fn program(&mut self) -> Tree {
+        let mark = self.random.below(2) as u32;
+        let most = if self.random.below(500) == 0 { 300 } else { 7 };
+        let count = self.random.between(1, most);
+        let items =
+            (0..count).map(|_| if mark == 0 && self.random.percent(55) { self.item() } else { self.statement(4) });
+        let program = Tree::new(Kind::Program, items.collect()).marked(mark);
+        if self.random.below(400) == 0 { self.deepened(program) } else { program }
+    }
+
+    /// The first statement below many rows, at times too many.
+    fn deepened(&mut self, mut program: Tree) -> Tree {
+        let wraps = [Kind::Paren, Kind::Block, Kind::Other, Kind::Arrow, Kind::Return, Kind::Spread, Kind::TypeDecl];
+        let mut first = program.children.remove(0);
+        for _ in first.depth()..*self.random.pick(&[60, 250, 255, 256, 257]) {
+            first = row(*self.random.pick(&wraps), [first]);
+        }
+        program.children.insert(0, first);
+        program
+    }
+
+    /// One thing in most cases, else anything.
+    fn mostly(&mut self, made: Tree, depth: usize) -> Tree {
+        if self.random.percent(94) { made } else { self.any(depth) }
+    }
+
+    fn word(&mut self, wanted: &str) -> Tree {
+        ident(word(&mut self.random, wanted))
+    }
+
+    fn name(&mut self) -> Tree {
+        ident(name(&mut self.random))
+    }
+
+    fn variable(&mut self) -> Tree {
+        ident(variable(&mut self.random))
+    }
+
+    fn string(&mut self) -> Tree {
+        Tree::text(Kind::Str, string(&mut self.random))
+    }
+
+    fn number(&mut self) -> Tree {
+        Tree::leaf(Kind::Num).marked(self.random.below(2) as u32)
+    }
+
+    /// A tree of any kind with any lawful children.
+    pub fn any(&mut self, depth: usize) -> Tree {
+        if depth > 0 && self.random.percent(60) {
+            return if self.random.percent(50) { self.statement(depth - 1) } else { self.expression(depth - 1) };
+        }
+        let kinds: Vec<Kind> = Kind::all_but_program().collect();
+        let kind = *self.random.pick(&kinds);
+        self.of_kind(kind, depth.saturating_sub(1))
+    }
+
+    /// A tree of this kind with any lawful children.
+    pub fn of_kind(&mut self, kind: Kind, depth: usize) -> Tree {
+        let line = kind.line();
+        let spare = if depth == 0 { 0 } else { (line.most - line.fewest).min(2) };
+        let count = line.fewest + self.random.between(0, spare);
+        let children = (0..count).map(|place| self.of_group(line.group(place, count), depth)).collect();
+        let text = match line.text {
+            TextForm::NoText => Vec::new(),
+            TextForm::Utf8 => name(&mut self.random).into_bytes(),
+            TextForm::Wtf8 => string(&mut self.random),
+        };
+        Tree { kind, mark: self.random.between(0, line.highest_mark as usize) as u32, text, children }
+    }
+
+    fn of_group(&mut self, group: Group, depth: usize) -> Tree {
+        match group {
+            Group::OneOf(kinds) => {
+                let kind = *self.random.pick(kinds);
+                self.of_kind(kind, depth.saturating_sub(1))
+            }
+            _ if depth == 0 => self.name(),
+            group => match self.any(depth - 1) {
+                tree if group.has(tree.kind) => tree,
+                _ => self.name(),
+            },
+        }
+    }
+
+    // CommonJS
+
+    /// `exports`, `module.exports` or `module["exports"]`.
+    fn exports_object(&mut self) -> Tree {
+        let made = match self.random.below(8) {
+            0..5 => self.word("exports"),
+            5 | 6 => row(Kind::Member, [self.word("module"), self.word("exports")]),
+            _ => {
+                let key = Tree::text(Kind::Str, word(&mut self.random, "exports"));
+                row(Kind::Member, [self.word("module"), row(Kind::Computed, [key])])
+            }
+        };
+        self.mostly(made, 1)
+    }
+
+    /// A call of `require`, at times within calls of `_interopRequireWildcard`.
+    fn required(&mut self) -> Tree {
+        let string = self.string();
+        let made = call(self.word("require"), self.arguments(string));
+        match self.random.below(5) {
+            0 => {
+                let outer = call(self.word("_interopRequireWildcard"), self.arguments(made));
+                if self.random.percent(30) { call(self.word("_interopRequireWildcard"), vec![outer]) } else { outer }
+            }
+            _ => self.mostly(made, 1),
+        }
+    }
+
+    /// This first argument, at times spread, and at times more.
+    fn arguments(&mut self, first: Tree) -> Vec<Tree> {
+        match self.random.below(30) {
+            0 => vec![row(Kind::Spread, [first])],
+            1 => vec![],
+            2 => vec![first, self.any(1)],
+            3 => vec![self.any(1), first],
+            4 => vec![first, row(Kind::Spread, [self.name()])],
+            _ => vec![first],
+        }
+    }
+
+    /// A value of a binding: mostly what is required.
+    fn value(&mut self, depth: usize) -> Tree {
+        match self.random.below(6) {
+            0 if depth > 0 => self.expression(depth - 1),
+            1 => self.keyed(),
+            _ => self.required(),
+        }
+    }
+
+    /// `e[k]`
+    fn keyed(&mut self) -> Tree {
+        let key = match self.random.below(12) {
+            0 => self.variable(),
+            1 => row(Kind::Computed, [self.string()]),
+            _ => row(Kind::Computed, [self.variable()]),
+        };
+        row(Kind::Member, [self.variable(), key])
+    }
+
+    fn var_decl(&mut self, depth: usize) -> Tree {
+        let count = *self.random.pick(&[1, 1, 1, 2, 3, 0]);
+        let declarators = (0..count).map(|_| self.declarator(depth)).collect();
+        Tree::new(if self.random.percent(92) { Kind::VarDecl } else { Kind::UsingDecl }, declarators)
+    }
+
+    fn declarator(&mut self, depth: usize) -> Tree {
+        let pattern = if self.random.percent(75) { self.variable() } else { self.pattern(depth) };
+        let mut children = vec![pattern];
+        if self.random.percent(90) {
+            children.push(self.value(depth));
+        }
+        Tree::new(Kind::Declarator, children)
+    }
+
+    /// `exports.a`, `exports["a"]`, `exports[k]`
+    fn exported_member(&mut self) -> Tree {
+        let property = match self.random.below(10) {
+            0..4 => self.name(),
+            4 | 5 => row(Kind::Computed, [self.string()]),
+            6..9 => row(Kind::Computed, [self.variable()]),
+            _ => self.of_group(Kind::Member.line().group(1, 2), 2),
+        };
+        row(Kind::Member, [self.exports_object(), property])
+    }
+
+    fn assignment(&mut self, depth: usize) -> Tree {
+        let (target, right) = match self.random.below(10) {
+            0..4 => (self.exports_object(), self.right_side(depth)),
+            4..9 => (self.exported_member(), self.plain_right_side(depth)),
+            _ => (self.any(depth.min(2)), self.right_side(depth)),
+        };
+        let mark = u32::from(self.random.percent(8));
+        row(Kind::Assign, [target, right]).marked(mark)
+    }
+
+    /// What is assigned to the exports object.
+    fn right_side(&mut self, depth: usize) -> Tree {
+        match self.random.below(10) {
+            0..4 if depth > 0 => self.object(depth - 1),
+            4..6 => self.required(),
+            6 | 7 if depth > 0 => {
+                let mark = u32::from(self.random.percent(15));
+                let target = if self.random.percent(50) { self.exported_member() } else { self.any(1) };
+                row(Kind::Assign, [target, self.right_side(depth - 1)]).marked(mark)
+            }
+            8 => self.keyed(),
+            _ => self.any(depth),
+        }
+    }
+
+    /// What is assigned to a property of it.
+    fn plain_right_side(&mut self, depth: usize) -> Tree {
+        match self.random.below(6) {
+            0..3 => self.keyed(),
+            3 if depth > 0 => self.assignment(depth - 1),
+            4 => self.any(depth),
+            _ => self.number(),
+        }
+    }
+
+    fn object(&mut self, depth: usize) -> Tree {
+        let count = self.random.between(0, 3);
+        Tree::new(Kind::Object, (0..count).map(|_| self.property(depth)).collect())
+    }
+
+    fn property(&mut self, depth: usize) -> Tree {
+        let key = self.key();
+        self.property_of(key, depth)
+    }
+
+    fn key(&mut self) -> Tree {
+        match self.random.below(10) {
+            0..6 => self.name(),
+            6 | 7 => self.string(),
+            _ => self.of_group(Kind::KeyValue.line().group(0, 2), 2),
+        }
+    }
+
+    fn property_of(&mut self, key: Tree, depth: usize) -> Tree {
+        match self.random.below(14) {
+            0..3 => row(Kind::KeyValue, [key, self.any(depth)]),
+            3 | 4 => Tree::text(Kind::Shorthand, name(&mut self.random)),
+            5..8 => row(Kind::Getter, [key, self.getter_body(depth)]),
+            8 | 9 => row(Kind::Method, [key, self.function(depth)]),
+            10 => Tree::new(Kind::Setter, vec![key, self.any(depth)]),
+            11 => row(Kind::Getter, [key]),
+            12 => row(Kind::Spread, [self.value(depth)]),
+            _ => Tree::new(Kind::Other, vec![self.any(depth)]),
+        }
+    }
+
+    /// `{ return .. }`
+    fn getter_body(&mut self, depth: usize) -> Tree {
+        let returned = row(Kind::Return, [self.returned(depth)]);
+        let statements = match self.random.below(12) {
+            0 => vec![],
+            1 => vec![returned, self.any(depth)],
+            2 => vec![Tree::leaf(Kind::Return)],
+            3 => vec![self.any(depth)],
+            _ => vec![returned],
+        };
+        Tree::new(Kind::Block, statements)
+    }
+
+    /// Mostly harmless.
+    fn returned(&mut self, depth: usize) -> Tree {
+        match self.random.below(14) {
+            0..4 => self.keyed(),
+            4 | 5 => self.name(),
+            6 => row(Kind::Member, [self.harmless(depth), self.name()]),
+            7 => row(Kind::Member, [self.harmless(depth), Tree::text(Kind::PrivateName, name(&mut self.random))]),
+            8 => row(Kind::Member, [self.harmless(depth), row(Kind::Computed, [self.harmless(depth)])]),
+            9 => self.harmless(depth),
+            _ => self.any(depth),
+        }
+    }
+
+    fn harmless(&mut self, depth: usize) -> Tree {
+        match self.random.below(8) {
+            0 => self.string(),
+            1 => self.number(),
+            2 => Tree::leaf(Kind::OtherLit),
+            3 => self.object(depth.min(1)),
+            4 if depth > 0 => self.returned(depth - 1),
+            _ => self.name(),
+        }
+    }
+
+    fn function(&mut self, depth: usize) -> Tree {
+        let mut children: Vec<Tree> = (0..*self.random.pick(&[0, 0, 0, 1, 2])).map(|_| self.pattern(1)).collect();
+        children.retain(|child| child.kind != Kind::Block);
+        if self.random.percent(95) {
+            children.push(self.getter_body(depth));
+        }
+        Tree::new(Kind::Function, children)
+    }
+
+    /// A function as a value: its Function, FnExpr or Arrow.
+    fn function_value(&mut self, depth: usize) -> Tree {
+        match self.random.below(6) {
+            0..3 => {
+                let mut children = vec![self.function(depth)];
+                if self.random.percent(30) {
+                    children.insert(0, self.name());
+                }
+                Tree::new(Kind::FnExpr, children)
+            }
+            3 => Tree::new(Kind::Arrow, vec![self.getter_body(depth)]),
+            4 => Tree::new(Kind::Arrow, vec![self.returned(depth)]),
+            _ => Tree::new(Kind::Arrow, vec![self.name(), self.returned(depth)]),
+        }
+    }
+
+    /// The third argument of `Object.defineProperty`.
+    fn descriptor(&mut self, depth: usize) -> Tree {
+        let get = match self.random.below(8) {
+            0 => Tree::text(Kind::Str, word(&mut self.random, "get")),
+            1 => row(Kind::Computed, [self.word("get")]),
+            _ => self.word("get"),
+        };
+        let getter = match self.random.below(10) {
+            0..4 => row(Kind::KeyValue, [get, self.function_value(depth)]),
+            4..7 => row(Kind::Method, [get, self.function(depth)]),
+            7 => Tree::text(Kind::Shorthand, word(&mut self.random, "get")),
+            _ => self.property_of(get, depth),
+        };
+        let mut properties: Vec<Tree> = (0..*self.random.pick(&[0, 0, 1, 2])).map(|_| self.property(1)).collect();
+        if self.random.percent(80) {
+            let place = self.random.between(0, properties.len());
+            properties.insert(place, getter);
+        }
+        let made = Tree::new(Kind::Object, properties);
+        self.mostly(made, depth)
+    }
+
+    /// `Object.defineProperty(exports, "a", { .. })`
+    fn definition(&mut self, depth: usize) -> Tree {
+        let member = row(Kind::Member, [self.word("Object"), self.word("defineProperty")]);
+        let callee = self.callee(member);
+        let key = match self.random.below(10) {
+            0..6 => self.string(),
+            6..9 => self.variable(),
+            _ => self.any(1),
+        };
+        let mut arguments = vec![self.exports_object(), key, self.descriptor(depth)];
+        match self.random.below(20) {
+            0 => arguments.truncate(2),
+            1 => arguments.push(self.any(1)),
+            2 => {
+                let place = self.random.below(3);
+                arguments[place] = row(Kind::Spread, [arguments[place].clone()]);
+            }
+            _ => {}
+        }
+        call(callee, arguments)
+    }
+
+    /// The callee as it is, or as `(0, callee)`.
+    fn callee(&mut self, plain: Tree) -> Tree {
+        if self.random.percent(75) {
+            return plain;
+        }
+        let zero = Tree::leaf(Kind::Num).marked(u32::from(self.random.percent(90)));
+        let sequence = match self.random.below(12) {
+            0 => vec![zero, self.any(1), plain],
+            1 => vec![plain],
+            2 => vec![plain, zero],
+            _ => vec![zero, plain],
+        };
+        let sequence = Tree::new(Kind::Seq, sequence);
+        if self.random.percent(92) { row(Kind::Paren, [sequence]) } else { sequence }
+    }
+
+    /// `__export(require("x"))` and its kin.
+    fn star_call(&mut self) -> Tree {
+        let function = if self.random.percent(50) { "__export" } else { "__exportStar" };
+        let plain = match self.random.below(3) {
+            0 => self.word(function),
+            1 => row(Kind::Member, [self.name(), self.word(function)]),
+            _ => row(Kind::Member, [self.any(1), self.word(function)]),
+        };
+        let callee = self.callee(plain);
+        let first = if self.random.percent(45) { self.variable() } else { self.required() };
+        let mut arguments = self.arguments(first);
+        if self.random.percent(40) {
+            arguments.push(self.word("exports"));
+        }
+        call(callee, arguments)
+    }
+
+    /// `Object.keys(e).forEach(function (k) { .. })`
+    fn loop_over_keys(&mut self, depth: usize) -> Tree {
+        let keys = call(row(Kind::Member, [ident("Object"), ident("keys")]), vec![self.variable()]);
+        let body = Tree::new(Kind::Block, (0..2).map(|_| self.statement(depth)).collect());
+        let function = row(Kind::FnExpr, [row(Kind::Function, [self.variable(), body])]);
+        call(row(Kind::Member, [keys, ident("forEach")]), vec![function])
+    }
+
+    pub fn expression(&mut self, depth: usize) -> Tree {
+        match self.random.below(16) {
+            0..3 => self.assignment(depth),
+            3 | 4 => self.definition(depth),
+            5..7 => self.star_call(),
+            7 => self.required(),
+            8 => self.keyed(),
+            9 => self.exports_object(),
+            10 => self.function_value(depth),
+            11 => self.object(depth.min(2)),
+            12 => self.string(),
+            13 => self.exported_member(),
+            _ if depth > 0 => self.any(depth - 1),
+            _ => self.name(),
+        }
+    }
+
+    pub fn statement(&mut self, depth: usize) -> Tree {
+        let inner = depth.saturating_sub(1);
+        match self.random.below(24) {
+            0..7 => self.assignment(inner),
+            7..11 => self.definition(inner),
+            11..15 => self.star_call(),
+            15..19 => self.var_decl(inner),
+            19 if depth > 0 => self.loop_over_keys(inner),
+            20 if depth > 0 => {
+                let kinds = [Kind::Block, Kind::Other, Kind::TypeDecl, Kind::Paren, Kind::Seq, Kind::Return];
+                let kind = *self.random.pick(&kinds);
+                row(kind, [self.statement(inner)])
+            }
+            21 => self.declaration(inner),
+            22 => self.expression(inner),
+            _ => self.any(inner),
+        }
+    }
+
+    // ES
+
+    fn pattern(&mut self, depth: usize) -> Tree {
+        let inner = depth.saturating_sub(1);
+        match self.random.below(if depth == 0 { 2 } else { 10 }) {
+            0 | 1 => self.name(),
+            2 | 3 => Tree::new(Kind::ArrayPat, (0..self.random.below(4)).map(|_| self.pattern(inner)).collect()),
+            4 | 5 => {
+                Tree::new(Kind::ObjectPat, (0..self.random.below(4)).map(|_| self.pattern_property(inner)).collect())
+            }
+            6 => row(Kind::RestPat, [self.pattern(inner)]),
+            7 => row(Kind::AssignPat, [self.pattern(inner), self.any(1)]),
+            8 => self.pattern_property(inner),
+            _ => self.any(inner),
+        }
+    }
+
+    fn pattern_property(&mut self, depth: usize) -> Tree {
+        match self.random.below(4) {
+            0 => row(Kind::KeyValuePat, [self.key(), self.pattern(depth)]),
+            1 => row(Kind::AssignPatProp, [self.name()]),
+            2 => row(Kind::AssignPatProp, [self.name(), self.any(1)]),
+            _ => row(Kind::RestPat, [self.pattern(depth)]),
+        }
+    }
+
+    fn declaration(&mut self, depth: usize) -> Tree {
+        let kinds = [Kind::ClassDecl, Kind::FnDecl, Kind::TsEnum, Kind::TsModule, Kind::TypeDecl];
+        match self.random.below(9) {
+            0..3 => self.var_decl(depth.max(2)),
+            3 => Tree::new(Kind::UsingDecl, (0..2).map(|_| self.declarator(2)).collect()),
+            number => self.of_kind(kinds[number - 4], depth),
+        }
+    }
+
+    fn export_name(&mut self) -> Tree {
+        if self.random.percent(70) { self.name() } else { self.string() }
+    }
+
+    fn specifier(&mut self) -> Tree {
+        match self.random.below(6) {
+            0 => row(Kind::NamespaceSpec, [self.export_name()]),
+            1 => row(Kind::DefaultSpec, [self.name()]),
+            2 | 3 => row(Kind::NamedSpec, [self.export_name()]),
+            _ => row(Kind::NamedSpec, [self.export_name(), self.export_name()]),
+        }
+    }
+
+    /// An item that only a module may have; now and then the TypeScript ones, which decide the script test.
+    fn item(&mut self) -> Tree {
+        match self.random.below(20) {
+            0..3 => row(Kind::ExportAll, [self.string()]),
+            3..8 => row(Kind::ExportDecl, [self.declaration(2)]),
+            8..12 => {
+                let mut children: Vec<Tree> = (0..self.random.below(4)).map(|_| self.specifier()).collect();
+                if self.random.percent(50) {
+                    children.push(self.string());
+                }
+                Tree::new(Kind::ExportNamed, children)
+            }
+            12 => row(Kind::ExportDefault, [self.expression(1)]),
+            13 => row(Kind::ExportDefault, [self.declaration(1)]),
+            14 => self.of_kind(Kind::Import, 2),
+            15 => self.of_kind(Kind::TsImportEquals, 2),
+            16 => self.of_kind(Kind::TsExportAssignment, 2),
+            17 => self.of_kind(Kind::TsNamespaceExport, 2),
+            _ => self.statement(3),
+        }
+    }
+}
