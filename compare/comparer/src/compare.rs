@@ -148,14 +148,19 @@ pub fn make(generator: &mut Generator, random: &mut Random) -> Vec<u8> {
     if random.percent(10) { damaged(random, block) } else { block }
 }
 
+impl fmt::Display for Input {
+    fn fmt(&self, f: &mut fmt::Formatter) -> fmt::Result {
+        match self {
+            Input::Tree(tree) => write!(f, "{tree}"),
+            Input::Bytes(bytes) => bytes.iter().try_for_each(|byte| write!(f, "{byte:02x}")),
+        }
+    }
+}
+
 impl fmt::Display for Disagreement {
     fn fmt(&self, f: &mut fmt::Formatter) -> fmt::Result {
-        write!(f, "block {}: ", self.number)?;
-        match &self.input {
-            Input::Tree(tree) => write!(f, "{tree}")?,
-            Input::Bytes(bytes) => bytes.iter().try_for_each(|byte| write!(f, "{byte:02x}"))?,
-        }
-        write!(f, "\n  expected {}\n  found    {}", self.expected, self.found)
+        writeln!(f, "block {}: {}", self.number, self.input)?;
+        write!(f, "  expected {}\n  found    {}", self.expected, self.found)
     }
 }
 

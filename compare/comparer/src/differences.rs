@@ -21,20 +21,21 @@ pub fn restated(tree: &Tree) -> (Tree, Vec<&'static str>) {
     let mut tree = tree.clone();
     let mut shown = Vec::new();
     for difference in &STATED {
-        let hit = match difference.on_top {
-            true => tree.children.iter_mut().fold(false, |hit, child| (difference.restate)(child) || hit),
+        let hits = match difference.on_top {
+            true => tree.children.iter_mut().map(difference.restate).map(usize::from).sum(),
             false => everywhere(&mut tree, difference.restate),
         };
-        if hit {
+        if hits > 0 {
             shown.push(difference.name);
         }
     }
     (tree, shown)
 }
 
-fn everywhere(tree: &mut Tree, restate: fn(&mut Tree) -> bool) -> bool {
-    let here = restate(tree);
-    tree.children.iter_mut().fold(here, |hit, child| everywhere(child, restate) || hit)
+/// How many rows it changed.
+fn everywhere(tree: &mut Tree, restate: fn(&mut Tree) -> bool) -> usize {
+    let here = usize::from(restate(tree));
+    here + tree.children.iter_mut().map(|child| everywhere(child, restate)).sum::<usize>()
 }
 
 /// The reference sees through the Spread. An Other around what is spread hides it.

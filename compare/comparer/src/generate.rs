@@ -43,10 +43,14 @@ impl Generator {
         let mark = self.random.below(2) as u32;
         let most = if self.random.below(500) == 0 { 300 } else { 7 };
         let count = self.random.between(1, most);
-        let items =
-            (0..count).map(|_| if mark == 0 && self.random.percent(55) { self.item() } else { self.statement(4) });
+        let items = (0..count).map(|_| self.child_of_program(mark));
         let program = Tree::new(Kind::Program, items.collect()).marked(mark);
-        if self.random.below(400) == 0 { self.deepened(program) } else { program }
+        if self.random.below(200) == 0 { self.deepened(program) } else { program }
+    }
+
+    fn child_of_program(&mut self, mark: u32) -> Tree {
+        let made = if mark == 0 && self.random.percent(55) { self.item() } else { self.statement(4) };
+        if mark == 1 && made.kind.is_module_item() { row(Kind::Block, [made]) } else { made }
     }
 
     /// The first statement below many rows, at times too many.

@@ -9,3 +9,4 @@ pub mod shrink;
 pub mod sides;
 pub mod texts;
 pub mod twist;
+pub mod wrong;

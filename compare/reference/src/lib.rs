@@ -4,15 +4,17 @@
 mod answer;
 mod decode;
 
-#[allow(dead_code)]
+#[allow(clippy::all)]
 mod cjs_parse {
     include!(concat!(env!("OUT_DIR"), "/cjs_parse.rs"));
 }
 
+#[allow(clippy::all)]
 mod exports {
     include!(concat!(env!("OUT_DIR"), "/exports.rs"));
 }
 
+#[allow(clippy::all)]
 mod script_test {
     use crate::ProgramRef;
     use crate::swc::ast::{ModuleDecl, ModuleItem};

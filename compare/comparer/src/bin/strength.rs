@@ -1,0 +1,72 @@
+//! How strong the comparison is: puts each wrong reading of `wrong-readings.txt` into a copy of the reference and looks
+//! after how many blocks it is told apart from a program that answers by the rules.
+//!
+//! `strength PORT COUNT SEED [WORDS]`: the path of the program, the most blocks for each reading, the number from which they are made, and words
+//! that a reading's name must hold to be tried. DENO_AST_SRC names the folder of the reference's sources. Ends with status 1 where a reading is not told
+//! apart and is not said to be equivalent, or is told apart although it is.
+
+use comparer::compare::{Pair, Plan};
+use comparer::sides::Side;
+use comparer::wrong::{Copy, WrongReading, parse};
+use std::error::Error;
+use std::path::{Path, PathBuf};
+use std::process::{Command, ExitCode};
+use std::{env, fs};
+
+type Failure = Box<dyn Error>;
+
+fn main() -> Result<ExitCode, Failure> {
+    let arguments: Vec<String> = env::args().skip(1).collect();
+    let (port, count, seed, words) = match &arguments[..] {
+        [port, count, seed] => (port, count, seed, ""),
+        [port, count, seed, words] => (port, count, seed, words.as_str()),
+        _ => return Err("usage: strength PORT COUNT SEED [WORDS]".into()),
+    };
+    let plan = Plan { seed: seed.parse()?, count: count.parse()?, most_shown: 1 };
+    let workspace = Path::new(env!("CARGO_MANIFEST_DIR")).parent().expect("the workspace");
+    let sources = env::var_os("DENO_AST_SRC").map(PathBuf::from).ok_or("set DENO_AST_SRC")?;
+    let readings = parse(&fs::read_to_string(workspace.join("wrong-readings.txt"))?)?;
+    let copy = Copy::new(workspace, &sources, workspace.join("target/strength"))?;
+    let (mut told, mut equivalent, mut missed) = (0, 0, 0);
+    for reading in readings.iter().filter(|reading| reading.name.contains(words)) {
+        match (tried(&copy, reading, Side::new(port), &plan)?, &reading.equivalent) {
+            (true, None) => told += 1,
+            (false, Some(_)) => equivalent += 1,
+            _ => missed += 1,
+        }
+    }
+    println!("{told} told apart, {equivalent} equivalent, {missed} not as they should be");
+    Ok(ExitCode::from(u8::from(missed > 0)))
+}
+
+/// Whether a wrong reading is told apart. Prints how.
+fn tried(copy: &Copy, reading: &WrongReading, port: Side, plan: &Plan) -> Result<bool, Failure> {
+    let before = copy.spoil(reading)?;
+    let built = build(copy);
+    copy.restore(before)?;
+    built.map_err(|error| format!("{}: {error}", reading.name))?;
+    let pair = Pair { reference: Side::new(copy.folder.join("target/debug/reference")), port };
+    let outcome = pair.run(plan)?;
+    match outcome.disagreements.first() {
+        Some(told) => println!("{}\n  after {} blocks: {}", reading.name, told.number + 1, told.input),
+        None => {
+            let why = reading.equivalent.as_deref().unwrap_or("why is not known");
+            println!("{}\n  NOT in {} blocks: {why}", reading.name, outcome.compared);
+        }
+    }
+    Ok(!outcome.disagreements.is_empty())
+}
+
+fn build(copy: &Copy) -> Result<(), Failure> {
+    let built = Command::new(env!("CARGO"))
+        .args(["build", "--quiet", "--offline", "-p", "reference"])
+        .current_dir(&copy.folder)
+        .env("DENO_AST_SRC", copy.folder.join("source"))
+        .env("CARGO_TARGET_DIR", copy.folder.join("target"))
+        .env("RUSTFLAGS", "-Awarnings")
+        .output()?;
+    if built.status.success() {
+        return Ok(());
+    }
+    Err(String::from_utf8_lossy(&built.stderr).into_owned().into())
+}
