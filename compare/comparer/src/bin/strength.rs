@@ -1,9 +1,10 @@
 //! How strong the comparison is: puts each wrong reading of `wrong-readings.txt` into a copy of the reference and looks
 //! after how many blocks it is told apart from a program that answers by the rules.
 //!
-//! `strength PORT COUNT SEED [WORDS]`: the path of the program, the most blocks for each reading, the number from which they are made, and words
-//! that a reading's name must hold to be tried. DENO_AST_SRC names the folder of the reference's sources. Ends with status 1 where a reading is not told
-//! apart and is not said to be equivalent, or is told apart although it is.
+//! `strength PORT COUNT SEED [WORDS]`: the path of the program, the most blocks for each reading, the number from which
+//! they are made, and words that a reading's name must hold to be tried. DENO_AST_SRC names the folder of the reference's
+//! sources. Ends with status 1 where a reading is not told apart and is not said to be equivalent, is told apart although
+//! it is, or cannot be built.
 
 use comparer::compare::{Pair, Plan};
 use comparer::sides::Side;
@@ -29,10 +30,14 @@ fn main() -> Result<ExitCode, Failure> {
     let copy = Copy::new(workspace, &sources, workspace.join("target/strength"))?;
     let (mut told, mut equivalent, mut missed) = (0, 0, 0);
     for reading in readings.iter().filter(|reading| reading.name.contains(words)) {
-        match (tried(&copy, reading, Side::new(port), &plan)?, &reading.equivalent) {
-            (true, None) => told += 1,
-            (false, Some(_)) => equivalent += 1,
-            _ => missed += 1,
+        match (tried(&copy, reading, Side::new(port), &plan), &reading.equivalent) {
+            (Ok(true), None) => told += 1,
+            (Ok(false), Some(_)) => equivalent += 1,
+            (Ok(_), _) => missed += 1,
+            (Err(error), _) => {
+                println!("{error}");
+                missed += 1;
+            }
         }
     }
     println!("{told} told apart, {equivalent} equivalent, {missed} not as they should be");
@@ -47,11 +52,12 @@ fn tried(copy: &Copy, reading: &WrongReading, port: Side, plan: &Plan) -> Result
     built.map_err(|error| format!("{}: {error}", reading.name))?;
     let pair = Pair { reference: Side::new(copy.folder.join("target/debug/reference")), port };
     let outcome = pair.run(plan)?;
+    println!("{}", reading.name);
     match outcome.disagreements.first() {
-        Some(told) => println!("{}\n  after {} blocks: {}", reading.name, told.number + 1, told.input),
+        Some(told) => println!("  after {} blocks: {}", told.number + 1, told.input),
         None => {
             let why = reading.equivalent.as_deref().unwrap_or("why is not known");
-            println!("{}\n  NOT in {} blocks: {why}", reading.name, outcome.compared);
+            println!("  NOT in {} blocks: {why}", outcome.compared);
         }
     }
     Ok(!outcome.disagreements.is_empty())
