@@ -129,15 +129,20 @@ impl Generator {
 
     // CommonJS
 
+    /// The word as a property, at times in brackets.
+    fn property_word(&mut self, wanted: &str) -> Tree {
+        let word = word(&mut self.random, wanted);
+        match self.random.below(12) {
+            0 => row(Kind::Computed, [Tree::text(Kind::Str, word)]),
+            _ => ident(word),
+        }
+    }
+
     /// `exports`, `module.exports` or `module["exports"]`.
     fn exports_object(&mut self) -> Tree {
         let made = match self.random.below(8) {
             0..5 => self.word("exports"),
-            5 | 6 => row(Kind::Member, [self.word("module"), self.word("exports")]),
-            _ => {
-                let key = Tree::text(Kind::Str, word(&mut self.random, "exports"));
-                row(Kind::Member, [self.word("module"), row(Kind::Computed, [key])])
-            }
+            _ => row(Kind::Member, [self.word("module"), self.property_word("exports")]),
         };
         self.mostly(made, 1)
     }
@@ -364,7 +369,7 @@ impl Generator {
 
     /// `Object.defineProperty(exports, "a", { .. })`
     fn definition(&mut self, depth: usize) -> Tree {
-        let member = row(Kind::Member, [self.word("Object"), self.word("defineProperty")]);
+        let member = row(Kind::Member, [self.word("Object"), self.property_word("defineProperty")]);
         let callee = self.callee(member);
         let key = match self.random.below(10) {
             0..6 => self.string(),
@@ -405,8 +410,8 @@ impl Generator {
         let function = if self.random.percent(50) { "__export" } else { "__exportStar" };
         let plain = match self.random.below(3) {
             0 => self.word(function),
-            1 => row(Kind::Member, [self.name(), self.word(function)]),
-            _ => row(Kind::Member, [self.any(1), self.word(function)]),
+            1 => row(Kind::Member, [self.name(), self.property_word(function)]),
+            _ => row(Kind::Member, [self.any(1), self.property_word(function)]),
         };
         let callee = self.callee(plain);
         let first = if self.random.percent(45) { self.variable() } else { self.required() };
