@@ -16,8 +16,9 @@ pub struct Pair {
     pub port: Side,
 }
 
-/// How many trees are handed over at once.
-const CHUNK: usize = 4000;
+/// How many blocks are handed over at once: first few, then as many as there were before.
+const FEWEST: usize = 250;
+const MOST: usize = 4000;
 
 /// What a run is over.
 pub struct Plan {
@@ -69,7 +70,7 @@ impl Pair {
         let mut generator = Generator::new(plan.seed);
         let mut random = Random::new(!plan.seed);
         while outcome.compared < plan.count && outcome.disagreements.len() < plan.most_shown {
-            let count = CHUNK.min(plan.count - outcome.compared);
+            let count = outcome.compared.clamp(FEWEST, MOST).min(plan.count - outcome.compared);
             let blocks = (0..count).map(|_| make(&mut generator, &mut random)).collect::<Vec<_>>();
             self.compare(&blocks, plan, &mut outcome)?;
         }

@@ -38,15 +38,26 @@ fn everywhere(tree: &mut Tree, restate: fn(&mut Tree) -> bool) -> usize {
     here + tree.children.iter_mut().map(|child| everywhere(child, restate)).sum::<usize>()
 }
 
-/// The reference sees through the Spread. An Other around what is spread hides it.
+/// The words whose calls lead to a specifier.
+const ASKING: [&[u8]; 2] = [b"require", b"_interopRequireWildcard"];
+
+/// Which of the words a Call's callee is.
+fn asking(tree: &Tree) -> Option<&'static [u8]> {
+    let callee = tree.children.first().filter(|callee| tree.kind == Kind::Call && callee.kind == Kind::Ident)?;
+    ASKING.into_iter().find(|word| *word == callee.text)
+}
+
+/// The reference sees through the Spread. An Other in place of what is spread hides it; the walk finds nothing less in
+/// it, for no rule acts at the rows that are changed.
 fn hide_spread(tree: &mut Tree) -> bool {
-    let [callee, argument, ..] = &mut tree.children[..] else { return false };
-    let asks = callee.kind == Kind::Ident && [&b"require"[..], b"_interopRequireWildcard"].contains(&&callee.text[..]);
-    let hit =
-        tree.kind == Kind::Call && asks && argument.kind == Kind::Spread && argument.children[0].kind != Kind::Other;
+    let asking_for_text = asking(tree).map(|word| word == ASKING[0]);
+    let argument = tree.children.get_mut(1).filter(|argument| argument.kind == Kind::Spread);
+    let (Some(for_text), Some(argument)) = (asking_for_text, argument) else { return false };
+    let spread = &mut argument.children[0];
+    let hit = if for_text { spread.kind == Kind::Str } else { asking(spread).is_some() };
     if hit {
-        let inner = argument.children.remove(0);
-        argument.children.push(Tree::new(Kind::Other, vec![inner]));
+        spread.kind = Kind::Other;
+        spread.text.clear();
     }
     hit
 }

@@ -45,7 +45,7 @@ impl Generator {
         let count = self.random.between(1, most);
         let items = (0..count).map(|_| self.child_of_program(mark));
         let program = Tree::new(Kind::Program, items.collect()).marked(mark);
-        if self.random.below(200) == 0 { self.deepened(program) } else { program }
+        if self.random.below(150) == 0 { self.deepened(program) } else { program }
     }
 
     fn child_of_program(&mut self, mark: u32) -> Tree {
@@ -57,7 +57,7 @@ impl Generator {
     fn deepened(&mut self, mut program: Tree) -> Tree {
         let wraps = [Kind::Paren, Kind::Block, Kind::Other, Kind::Arrow, Kind::Return, Kind::Spread, Kind::TypeDecl];
         let mut first = program.children.remove(0);
-        for _ in first.depth()..*self.random.pick(&[60, 250, 255, 256, 257]) {
+        for _ in first.depth()..*self.random.pick(&[60, 255, 256, 256, 257, 257]) {
             first = row(*self.random.pick(&wraps), [first]);
         }
         program.children.insert(0, first);

@@ -75,7 +75,13 @@ fn restates(before: &str, after: &str, differences: usize) {
 
 #[test]
 fn the_stated_differences_are_restated() {
-    restates(r#"Program(Call(require, Spread("x")))"#, r#"Program(Call(require, Spread(Other("x"))))"#, 1);
+    restates(r#"Program(Call(require, Spread("x")))"#, "Program(Call(require, Spread(Other)))", 1);
+    restates(
+        r#"Program(Call(_interopRequireWildcard, Spread(Call(require, "x"))))"#,
+        r#"Program(Call(_interopRequireWildcard, Spread(Other(require, "x"))))"#,
+        1,
+    );
+    restates("Program(Call(require, Spread(Call(require))))", "Program(Call(require, Spread(Call(require))))", 0);
     restates(r#"Program(Call(require, "x", Spread(a)))"#, r#"Program(Call(require, "x", Spread(a)))"#, 0);
     restates("Program(Call(__export, Spread(a)))", "Program(Call(__export, Spread(a)))", 0);
     restates("Program(ExportDefault(TypeDecl(a)))", "Program(Import(TypeDecl(a)))", 1);
