@@ -220,7 +220,12 @@ impl Generator {
     fn assignment(&mut self, depth: usize) -> Tree {
         let (target, right) = match self.random.below(10) {
             0..4 => (self.exports_object(), self.right_side(depth)),
-            4..9 => (self.exported_member(), self.plain_right_side(depth)),
+            4..8 => (self.exported_member(), self.plain_right_side(depth)),
+            8 => {
+                let key = row(Kind::Computed, [self.variable()]);
+                let target = row(Kind::Member, [self.exports_object(), key.clone()]);
+                (target, row(Kind::Member, [self.variable(), key]))
+            }
             _ => (self.any(depth.min(2)), self.right_side(depth)),
         };
         let mark = u32::from(self.random.percent(8));
@@ -367,6 +372,22 @@ impl Generator {
         self.mostly(made, depth)
     }
 
+    /// `{ get: function () { return e[k]; } }`
+    fn keyed_descriptor(&mut self, key: &Tree) -> Tree {
+        let value = row(Kind::Member, [self.variable(), row(Kind::Computed, [key.clone()])]);
+        let block = row(Kind::Block, [row(Kind::Return, [value.clone()])]);
+        let get = self.word("get");
+        let getter = match self.random.below(6) {
+            0 => row(Kind::KeyValue, [get, row(Kind::FnExpr, [row(Kind::Function, [block])])]),
+            1 => row(Kind::KeyValue, [get, row(Kind::Arrow, [block])]),
+            2 => row(Kind::KeyValue, [get, row(Kind::Arrow, [value])]),
+            3 | 4 => row(Kind::Method, [get, row(Kind::Function, [block])]),
+            _ => row(Kind::Getter, [get, block]),
+        };
+        let made = row(Kind::Object, [getter]);
+        self.mostly(made, 1)
+    }
+
     /// `Object.defineProperty(exports, "a", { .. })`
     fn definition(&mut self, depth: usize) -> Tree {
         let member = row(Kind::Member, [self.word("Object"), self.property_word("defineProperty")]);
@@ -376,7 +397,11 @@ impl Generator {
             6..9 => self.variable(),
             _ => self.any(1),
         };
-        let mut arguments = vec![self.exports_object(), key, self.descriptor(depth)];
+        let descriptor = match key.kind {
+            Kind::Ident if self.random.percent(60) => self.keyed_descriptor(&key),
+            _ => self.descriptor(depth),
+        };
+        let mut arguments = vec![self.exports_object(), key, descriptor];
         match self.random.below(20) {
             0 => arguments.truncate(2),
             1 => arguments.push(self.any(1)),
@@ -397,8 +422,9 @@ impl Generator {
         let zero = Tree::leaf(Kind::Num).marked(u32::from(self.random.percent(90)));
         let sequence = match self.random.below(12) {
             0 => vec![zero, self.any(1), plain],
-            1 => vec![plain],
-            2 => vec![plain, zero],
+            1 => vec![zero, plain, self.any(1)],
+            2 => vec![plain],
+            3 => vec![plain, zero],
             _ => vec![zero, plain],
         };
         let sequence = Tree::new(Kind::Seq, sequence);
@@ -416,8 +442,12 @@ impl Generator {
         let callee = self.callee(plain);
         let first = if self.random.percent(45) { self.variable() } else { self.required() };
         let mut arguments = self.arguments(first);
-        if self.random.percent(40) {
-            arguments.push(self.word("exports"));
+        match self.random.below(40) {
+            0..15 => arguments.push(self.word("exports")),
+            15 => arguments.push(self.exports_object()),
+            16 => arguments.push(row(Kind::Spread, [self.word("exports")])),
+            17 => arguments.extend([self.word("exports"), self.any(1)]),
+            _ => {}
         }
         call(callee, arguments)
     }

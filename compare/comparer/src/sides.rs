@@ -16,8 +16,19 @@ impl Side {
         Side { program: program.as_ref().to_path_buf() }
     }
 
-    /// A line for each block; those that the program did not write are `no line`.
+    /// A line for each block. Blocks without one are asked about alone, for a program that fails may lose lines; those that
+    /// then have none get `no line`.
     pub fn answers(&self, blocks: &[Vec<u8>]) -> io::Result<Vec<String>> {
+        let mut lines = self.lines(blocks)?;
+        lines.truncate(blocks.len());
+        for block in &blocks[lines.len()..] {
+            let line = self.lines(std::slice::from_ref(block))?.into_iter().next();
+            lines.push(line.unwrap_or_else(|| "no line".to_string()));
+        }
+        Ok(lines)
+    }
+
+    fn lines(&self, blocks: &[Vec<u8>]) -> io::Result<Vec<String>> {
         let mut child = Command::new(&self.program)
             .arg("answers")
             .stdin(Stdio::piped())
@@ -33,10 +44,7 @@ impl Side {
             output.read_to_end(&mut said)
         })?;
         child.wait()?;
-        let said = String::from_utf8_lossy(&said);
-        let mut lines: Vec<String> = said.lines().map(str::to_string).collect();
-        lines.resize(blocks.len(), "no line".to_string());
-        Ok(lines)
+        Ok(String::from_utf8_lossy(&said).lines().map(str::to_string).collect())
     }
 }
 

@@ -4,7 +4,7 @@
 //! `strength PORT COUNT SEED [WORDS]`: the path of the program, the most blocks for each reading, the number from which
 //! they are made, and words that a reading's name must hold to be tried. DENO_AST_SRC names the folder of the reference's
 //! sources. Ends with status 1 where a reading is not told apart and is not said to be equivalent, is told apart although
-//! it is, or cannot be built.
+//! it is, or cannot be built. What it prints is a list of trees in words, each after a line that tells of its reading.
 
 use comparer::compare::{Pair, Plan};
 use comparer::sides::Side;
@@ -35,12 +35,12 @@ fn main() -> Result<ExitCode, Failure> {
             (Ok(false), Some(_)) => equivalent += 1,
             (Ok(_), _) => missed += 1,
             (Err(error), _) => {
-                println!("{error}");
+                println!("# {error}");
                 missed += 1;
             }
         }
     }
-    println!("{told} told apart, {equivalent} equivalent, {missed} not as they should be");
+    println!("# {told} told apart, {equivalent} equivalent, {missed} not as they should be");
     Ok(ExitCode::from(u8::from(missed > 0)))
 }
 
@@ -52,13 +52,11 @@ fn tried(copy: &Copy, reading: &WrongReading, port: Side, plan: &Plan) -> Result
     built.map_err(|error| format!("{}: {error}", reading.name))?;
     let pair = Pair { reference: Side::new(copy.folder.join("target/debug/reference")), port };
     let outcome = pair.run(plan)?;
-    println!("{}", reading.name);
-    match outcome.disagreements.first() {
-        Some(told) => println!("  after {} blocks: {}", told.number + 1, told.input),
-        None => {
-            let why = reading.equivalent.as_deref().unwrap_or("why is not known");
-            println!("  NOT in {} blocks: {why}", outcome.compared);
-        }
+    let name = &reading.name;
+    match (outcome.disagreements.first(), &reading.equivalent) {
+        (Some(told), _) => println!("# {name}: told apart after {} blocks\n{}", told.number + 1, told.input),
+        (None, Some(why)) => println!("# {name}: equivalent, {why}"),
+        (None, None) => println!("# {name}: not told apart in {} blocks", outcome.compared),
     }
     Ok(!outcome.disagreements.is_empty())
 }
