@@ -2,44 +2,18 @@
 
 use crate::random::Random;
 
-/// Words that a rule asks for.
-pub const WORDS: [&str; 10] = [
-    "exports",
-    "module",
-    "require",
-    "Object",
-    "defineProperty",
-    "__export",
-    "__exportStar",
-    "_interopRequireWildcard",
-    "get",
-    "default",
-];
-
-/// Words that a rule could be thought to ask for.
-const NEAR: [&str; 22] = [
-    "export",
-    "Exports",
-    "exports1",
-    "modules",
-    "Module",
-    "requires",
-    "object",
-    "Objects",
-    "defineproperty",
-    "defineProperties",
-    "definePropert",
-    "_export",
-    "__exports",
-    "__exportstar",
-    "__exportStars",
-    "_interopRequireDefault",
-    "interopRequireWildcard",
-    "Get",
-    "gets",
-    "set",
-    "value",
-    "__esModule",
+/// Words that a rule asks for, each with words that it could be taken for.
+const WORDS: [(&str, &[&str]); 10] = [
+    ("exports", &["export", "Exports", "exports1", "__exports"]),
+    ("module", &["modules", "Module", "exports"]),
+    ("require", &["requires", "Require", "__require"]),
+    ("Object", &["object", "Objects", "Reflect"]),
+    ("defineProperty", &["defineproperty", "defineProperties", "definePropert"]),
+    ("__export", &["_export", "__exports", "__exportStar"]),
+    ("__exportStar", &["__exportstar", "__exportStars", "__export"]),
+    ("_interopRequireWildcard", &["_interopRequireDefault", "interopRequireWildcard", "require"]),
+    ("get", &["Get", "gets", "set", "value"]),
+    ("default", &["Default", "__esModule"]),
 ];
 
 const NAMES: [&str; 8] = ["a", "b", "c", "e", "k", "t", "x", "tslib"];
@@ -63,18 +37,31 @@ const SURROGATES: [&[u8]; 8] = [
 /// The word, or at times another one.
 pub fn word(random: &mut Random, wanted: &str) -> String {
     match random.below(40) {
-        0 => random.pick(&NEAR).to_string(),
-        1 => random.pick(&WORDS).to_string(),
+        0 => near(random, wanted),
+        1 => any_word(random),
         2 => name(random),
         _ => wanted.to_string(),
     }
 }
 
+fn near(random: &mut Random, wanted: &str) -> String {
+    let near = WORDS.iter().find(|(word, _)| *word == wanted).map_or(&NAMES[..], |(_, near)| near);
+    random.pick(near).to_string()
+}
+
+/// One of the words that rules ask for.
+pub fn any_word(random: &mut Random) -> String {
+    random.pick(&WORDS).0.to_string()
+}
+
 /// The name of a variable, a property or an export.
 pub fn name(random: &mut Random) -> String {
     match random.below(20) {
-        0 => random.pick(&WORDS).to_string(),
-        1 => random.pick(&NEAR).to_string(),
+        0 => any_word(random),
+        1 => {
+            let word = any_word(random);
+            near(random, &word)
+        }
         2 => random.pick(&FOREIGN).to_string(),
         _ => random.pick(&NAMES).to_string(),
     }

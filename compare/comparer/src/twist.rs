@@ -1,7 +1,7 @@
 //! Small changes to a tree that leave it lawful. They make the near misses that no shape was written for.
 
 use crate::generate::Generator;
-use crate::texts::{WORDS, name, string};
+use crate::texts::{any_word, name, string};
 use blocks::kinds::TextForm;
 use blocks::{Kind, Tree};
 
@@ -66,7 +66,7 @@ fn changed(generator: &mut Generator, tree: &Tree) -> Tree {
 
 fn text(generator: &mut Generator, kind: Kind) -> Vec<u8> {
     match (kind.line().text, generator.random.below(3)) {
-        (_, 0) => generator.random.pick(&WORDS).as_bytes().to_vec(),
+        (_, 0) => any_word(&mut generator.random).into_bytes(),
         (TextForm::Wtf8, 1) => string(&mut generator.random),
         _ => name(&mut generator.random).into_bytes(),
     }
