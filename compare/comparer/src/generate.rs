@@ -181,6 +181,12 @@ impl Generator {
         }
     }
 
+    /// A variable and this key, mostly in brackets.
+    fn keyed_by(&mut self, key: Tree) -> Tree {
+        let property = if self.random.percent(90) { row(Kind::Computed, [key]) } else { key };
+        row(Kind::Member, [self.variable(), property])
+    }
+
     /// `e[k]`
     fn keyed(&mut self) -> Tree {
         let key = match self.random.below(12) {
@@ -222,9 +228,9 @@ impl Generator {
             0..4 => (self.exports_object(), self.right_side(depth)),
             4..8 => (self.exported_member(), self.plain_right_side(depth)),
             8 => {
-                let key = row(Kind::Computed, [self.variable()]);
-                let target = row(Kind::Member, [self.exports_object(), key.clone()]);
-                (target, row(Kind::Member, [self.variable(), key]))
+                let key = self.variable();
+                let target = row(Kind::Member, [self.exports_object(), row(Kind::Computed, [key.clone()])]);
+                (target, self.keyed_by(key))
             }
             _ => (self.any(depth.min(2)), self.right_side(depth)),
         };
@@ -374,7 +380,7 @@ impl Generator {
 
     /// `{ get: function () { return e[k]; } }`
     fn keyed_descriptor(&mut self, key: &Tree) -> Tree {
-        let value = row(Kind::Member, [self.variable(), row(Kind::Computed, [key.clone()])]);
+        let value = self.keyed_by(key.clone());
         let block = row(Kind::Block, [row(Kind::Return, [value.clone()])]);
         let get = self.word("get");
         let getter = match self.random.below(6) {
