@@ -301,7 +301,8 @@ impl Generator {
             0 => vec![],
             1 => vec![returned, self.any(depth)],
             2 => vec![Tree::leaf(Kind::Return)],
-            3 => vec![self.any(depth)],
+            3 => vec![self.returned(depth)],
+            4 => vec![self.any(depth)],
             _ => vec![returned],
         };
         Tree::new(Kind::Block, statements)
