@@ -269,14 +269,15 @@ impl Generator {
     }
 
     fn property(&mut self, depth: usize) -> Tree {
-        let key = self.key();
+        let key = self.key(depth);
         self.property_of(key, depth)
     }
 
-    fn key(&mut self) -> Tree {
+    fn key(&mut self, depth: usize) -> Tree {
         match self.random.below(10) {
             0..6 => self.name(),
             6 | 7 => self.string(),
+            8 if depth > 0 => row(Kind::Computed, [self.expression(depth - 1)]),
             _ => self.of_group(Kind::KeyValue.line().group(0, 2), 2),
         }
     }
@@ -522,7 +523,7 @@ impl Generator {
 
     fn pattern_property(&mut self, depth: usize) -> Tree {
         match self.random.below(4) {
-            0 => row(Kind::KeyValuePat, [self.key(), self.pattern(depth)]),
+            0 => row(Kind::KeyValuePat, [self.key(depth), self.pattern(depth)]),
             1 => row(Kind::AssignPatProp, [self.name()]),
             2 => row(Kind::AssignPatProp, [self.name(), self.any(1)]),
             _ => row(Kind::RestPat, [self.pattern(depth)]),
