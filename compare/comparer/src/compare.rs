@@ -22,10 +22,14 @@ const MOST: usize = 4000;
 
 /// What a run is over.
 pub struct Plan {
-    pub seed: u64,
-    pub count: usize,
+    pub blocks: Blocks,
     /// The run ends after so many disagreements.
     pub most_shown: usize,
+}
+
+pub enum Blocks {
+    Made { count: usize, seed: u64 },
+    Given(Vec<Vec<u8>>),
 }
 
 /// What a run found.
@@ -64,17 +68,25 @@ struct Lines {
 }
 
 impl Pair {
-    /// Makes blocks and compares the programs on them.
+    /// Compares the programs on all blocks of the plan.
     pub fn run(&self, plan: &Plan) -> io::Result<Outcome> {
         let mut outcome = Outcome::default();
-        let mut generator = Generator::new(plan.seed);
-        let mut random = Random::new(!plan.seed);
-        while outcome.compared < plan.count && outcome.disagreements.len() < plan.most_shown {
-            let count = outcome.compared.clamp(FEWEST, MOST).min(plan.count - outcome.compared);
-            let blocks = (0..count).map(|_| make(&mut generator, &mut random)).collect::<Vec<_>>();
-            self.compare(&blocks, plan, &mut outcome)?;
+        match &plan.blocks {
+            Blocks::Made { count, seed } => self.run_on_made(*count, *seed, plan, &mut outcome)?,
+            Blocks::Given(blocks) => self.compare(blocks, plan, &mut outcome)?,
         }
         Ok(outcome)
+    }
+
+    fn run_on_made(&self, count: usize, seed: u64, plan: &Plan, outcome: &mut Outcome) -> io::Result<()> {
+        let mut generator = Generator::new(seed);
+        let mut random = Random::new(!seed);
+        while outcome.compared < count && outcome.disagreements.len() < plan.most_shown {
+            let next = outcome.compared.clamp(FEWEST, MOST).min(count - outcome.compared);
+            let blocks = (0..next).map(|_| make(&mut generator, &mut random)).collect::<Vec<_>>();
+            self.compare(&blocks, plan, outcome)?;
+        }
+        Ok(())
     }
 
     fn compare(&self, blocks: &[Vec<u8>], plan: &Plan, outcome: &mut Outcome) -> io::Result<()> {

@@ -16,8 +16,8 @@ impl Side {
         Side { program: program.as_ref().to_path_buf() }
     }
 
-    /// A line for each block. Blocks without one are asked about alone, for a program that fails may lose lines; those that
-    /// then have none get `no line`.
+    /// A line for each block. Blocks without one are asked about alone, for a program that fails may lose lines; those
+    /// that then have none get `no line`.
     pub fn answers(&self, blocks: &[Vec<u8>]) -> io::Result<Vec<String>> {
         let mut lines = self.lines(blocks)?;
         lines.truncate(blocks.len());

@@ -3,8 +3,8 @@
 use crate::ParsedSource;
 use std::fmt::Write;
 
-/// `S`, then the exports and re-exports by the CommonJS analysis, then those by the ES analysis. A block that is refused
-/// gets the line of its fault, by the check of `blocks`.
+/// The script test's answer, then the exports and re-exports by the CommonJS analysis, then those by the ES analysis. A
+/// block that is refused gets the line of its fault, by the check of `blocks`.
 pub fn answers_line(block: &[u8]) -> String {
     let rows = match blocks::check(block) {
         Ok(rows) => rows,

@@ -3,7 +3,7 @@
 //! `compare REFERENCE PORT COUNT SEED`: the paths of two programs with the command `answers`, how many blocks are made,
 //! and from which number. Ends with status 1 where they disagree.
 
-use comparer::compare::{Pair, Plan};
+use comparer::compare::{Blocks, Pair, Plan};
 use comparer::sides::Side;
 use std::error::Error;
 use std::process::ExitCode;
@@ -16,7 +16,8 @@ fn main() -> Result<ExitCode, Box<dyn Error>> {
         return Err("usage: compare REFERENCE PORT COUNT SEED".into());
     };
     let pair = Pair { reference: Side::new(reference), port: Side::new(port) };
-    let plan = Plan { seed: seed.parse()?, count: count.parse()?, most_shown: MOST_SHOWN };
+    let blocks = Blocks::Made { count: count.parse()?, seed: seed.parse()? };
+    let plan = Plan { blocks, most_shown: MOST_SHOWN };
     let outcome = pair.run(&plan)?;
     println!("{outcome}");
     Ok(ExitCode::from(u8::from(!outcome.disagreements.is_empty())))

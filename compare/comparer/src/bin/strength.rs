@@ -2,14 +2,20 @@
 //! after how many blocks it is told apart from a program that answers by the rules.
 //!
 //! `strength PORT COUNT SEED [WORDS]`: the path of the program, the most blocks for each reading, the number from which
-//! they are made, and words that a reading's name must hold to be tried. DENO_AST_SRC names the folder of the reference's
-//! sources. Ends with status 1 where a reading is not told apart and is not said to be equivalent, is told apart although
-//! it is, or cannot be built. What it prints is a list of trees in words, each after a line that tells of its reading.
+//! they are made, and words that a reading's name must hold to be tried. DENO_AST_SRC names the folder of the
+//! reference's sources.
+//!
+//! `strength PORT --on STREAM`: the same on the blocks of a file.
+//!
+//! What it prints is a list of trees in words, each after a line that tells of its reading. It ends with status 1 where a
+//! reading is not told apart and is not said to be equivalent, is told apart although it is, or cannot be built.
 
-use comparer::compare::{Pair, Plan};
+use comparer::compare::{Blocks, Pair, Plan};
 use comparer::sides::Side;
 use comparer::wrong::{Copy, WrongReading, parse};
 use std::error::Error;
+use std::fs::File;
+use std::io::BufReader;
 use std::path::{Path, PathBuf};
 use std::process::{Command, ExitCode};
 use std::{env, fs};
@@ -18,12 +24,14 @@ type Failure = Box<dyn Error>;
 
 fn main() -> Result<ExitCode, Failure> {
     let arguments: Vec<String> = env::args().skip(1).collect();
-    let (port, count, seed, words) = match &arguments[..] {
-        [port, count, seed] => (port, count, seed, ""),
-        [port, count, seed, words] => (port, count, seed, words.as_str()),
-        _ => return Err("usage: strength PORT COUNT SEED [WORDS]".into()),
+    let arguments: Vec<&str> = arguments.iter().map(String::as_str).collect();
+    let (port, blocks, words) = match arguments[..] {
+        [port, "--on", stream] => (port, Blocks::Given(all_blocks(stream)?), ""),
+        [port, count, seed] => (port, Blocks::Made { count: count.parse()?, seed: seed.parse()? }, ""),
+        [port, count, seed, words] => (port, Blocks::Made { count: count.parse()?, seed: seed.parse()? }, words),
+        _ => return Err("usage: strength PORT COUNT SEED [WORDS] | PORT --on STREAM".into()),
     };
-    let plan = Plan { seed: seed.parse()?, count: count.parse()?, most_shown: 1 };
+    let plan = Plan { blocks, most_shown: 1 };
     let workspace = Path::new(env!("CARGO_MANIFEST_DIR")).parent().expect("the workspace");
     let sources = env::var_os("DENO_AST_SRC").map(PathBuf::from).ok_or("set DENO_AST_SRC")?;
     let readings = parse(&fs::read_to_string(workspace.join("wrong-readings.txt"))?)?;
@@ -42,6 +50,14 @@ fn main() -> Result<ExitCode, Failure> {
     }
     println!("# {told} told apart, {equivalent} equivalent, {missed} not as they should be");
     Ok(ExitCode::from(u8::from(missed > 0)))
+}
+
+fn all_blocks(stream: &str) -> Result<Vec<Vec<u8>>, Failure> {
+    let (mut input, mut all) = (BufReader::new(File::open(stream)?), Vec::new());
+    while let Some(block) = blocks::next_block(&mut input)? {
+        all.push(block);
+    }
+    Ok(all)
 }
 
 /// Whether a wrong reading is told apart. Prints how.

@@ -1,7 +1,7 @@
 //! Trees in words and as blocks.
 //!
-//! - `trees assemble < WORDS > STREAM`: a tree in words on each line becomes a block. Lines that are empty or begin with
-//!   `#` are passed over.
+//! - `trees assemble < WORDS > STREAM`: a tree in words on each line becomes a block. Lines that are empty or begin
+//!   with `#` are passed over.
 //! - `trees print < STREAM`: a line of words for each block; for a refused one its refusal.
 //! - `trees make COUNT SEED > STREAM`: blocks as the comparison makes them.
 //! - `trees restate < STREAM > STREAM`: each block as the one on which the reference follows the rules.
