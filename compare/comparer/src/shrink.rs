@@ -3,7 +3,7 @@
 use blocks::{Kind, Tree};
 use std::io;
 
-/// Up to so many rows a row is also replaced by rows far below it.
+/// Up to so many rows a row is also replaced by any row below it.
 const MOST_ROWS: usize = 100;
 
 /// The size by which trees are compared: rows, then bytes of text, then marks and kinds that are not Other.
@@ -96,7 +96,7 @@ fn reductions_at(tree: &Tree, path: &[usize]) -> Vec<Tree> {
     made
 }
 
-/// The paths of the rows below, or of the children only.
+/// The paths of the rows below. In a large tree only of those one, two, four, eight .. rows down.
 fn inner(tree: &Tree, all: bool) -> impl Iterator<Item = Vec<usize>> {
-    tree.paths().into_iter().filter(move |path| !path.is_empty() && (all || path.len() == 1))
+    tree.paths().into_iter().filter(move |path| !path.is_empty() && (all || path.len().is_power_of_two()))
 }

@@ -100,3 +100,20 @@ fn wrong_readings_are_read() {
     assert!(wrong::parse("old: a").is_err());
     assert!(wrong::parse("name").is_err());
 }
+
+#[test]
+fn a_deep_tree_shrinks_in_few_steps() {
+    let mut tree = parse("Call(a)").unwrap();
+    for _ in 0..250 {
+        tree = Tree::new(Kind::Assign, vec![Tree::leaf(Kind::Other), tree]);
+    }
+    let tree = Tree::new(Kind::Program, vec![tree]);
+    let holds = |tree: &Tree| tree.paths().iter().any(|path| tree.at(path).kind == Kind::Call);
+    let mut steps = 0;
+    let smallest = shrink(tree, &mut |trees| {
+        steps += 1;
+        Ok(trees.iter().map(holds).collect())
+    });
+    assert_eq!(smallest.unwrap().to_string(), "Program(Call(Other))");
+    assert!(steps < 30, "{steps}");
+}
