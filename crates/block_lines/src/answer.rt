@@ -14,7 +14,6 @@ use tree::{LONGEST_BLOCK, TreeFault};
 pub fn refusal_of_too_long(module: u32) -> Fault
     ensures { (block : List ℕ) → LONGEST_BLOCK < length block → Verdict «module» block (Some result) }
 {
-    // The same call as in `answers`: callers of each crate are promised it under this name.
     Fault::from(TreeFault::too_long(module))
 }
 
