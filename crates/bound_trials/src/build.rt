@@ -53,6 +53,28 @@ pub(crate) fn padded(heap: Global, length: usize) -> Result<Vec<u8>, AllocError>
     Ok(block)
 }
 
+/// A largest block of as many rows as there may be. The last of them has the whole text, which ends with the block.
+pub(crate) fn full(heap: Global) -> Result<Vec<u8>, AllocError> {
+    let mut block = Vec::new(heap);
+    put(&mut block, &[16, 1_310_720, 1_310_736, 2_883_568])?;
+    put(&mut block, &row(Kind::Program, 1, 65_536))?;
+    for end in 2..65_536u32 {
+        put(&mut block, &row(Kind::Other, 0, end))?;
+    }
+    put(&mut block, &[Kind::Ident.number(), 0, 0, 2_883_568, 65_536])?;
+    block.resize(4_194_304, b'a')?;
+    Ok(block)
+}
+
+/// The same block with another byte at a place.
+pub(crate) fn full_but(heap: Global, at: usize, byte: u8) -> Result<Vec<u8>, AllocError> {
+    let mut block = full(heap)?;
+    if let Some(there) = block.get_mut(at) {
+        *there = byte;
+    }
+    Ok(block)
+}
+
 /// A stream of blocks of so many bytes, each a script of one row.
 pub(crate) fn framed(heap: Global, lengths: &[u32]) -> Result<Vec<u8>, AllocError> {
     let mut stream = Vec::new(heap);

@@ -3,8 +3,8 @@
 
 mod build;
 
-use answers::{LONGEST_BLOCK, LineKind, Sizes, answer_stream};
-use build::{chain, flat, framed, padded};
+use answers::{LONGEST_BLOCK, LineKind, ReportText, Sizes, answer_stream, report_for};
+use build::{chain, flat, framed, full, full_but, padded};
 use std::io;
 use std::io::Read;
 
@@ -39,6 +39,42 @@ fn blocks(rt: &HostRuntime) -> io::Result<()> {
     show(rt, "a row under 300 others", &chain(heap, 301)?)?;
     show(rt, "the largest block", &padded(heap, LONGEST_BLOCK)?)?;
     show(rt, "one byte more", &padded(heap, LONGEST_BLOCK + 1)?)
+}
+
+/// The largest block with the most rows, and the same with one byte otherwise. Its last row begins at byte 1,310,716.
+fn full_blocks(rt: &HostRuntime) -> io::Result<()> {
+    let heap = rt.alloc();
+    show(
+        rt,
+        "the most rows, and a text to the last byte",
+        &full(heap)?,
+    )?;
+    show(rt, "a text of one byte more", &full_but(heap, 12, 0xF1)?)?;
+    show(
+        rt,
+        "the last row's end above the count",
+        &full_but(heap, 1_310_732, 1)?,
+    )?;
+    show(
+        rt,
+        "the last row of no kind",
+        &full_but(heap, 1_310_716, 99)?,
+    )?;
+    show(
+        rt,
+        "the last row's text of one byte more",
+        &full_but(heap, 1_310_728, 0xF1)?,
+    )?;
+    show(
+        rt,
+        "the last byte of the text not UTF-8",
+        &full_but(heap, 4_194_303, 0xFF)?,
+    )
+}
+
+/// A block of another module than 0.
+fn of_a_module(rt: &HostRuntime) -> io::Result<()> {
+    println!(rt; "no bytes, of module 7: {}", ReportText(report_for(7, b"")))
 }
 
 /// Streams that are empty or cut short. The last two end inside a block of almost 2^32 bytes.
@@ -97,6 +133,8 @@ fn long_streams(rt: &HostRuntime) -> io::Result<()> {
 /// Prints all of them.
 fn main(rt: HostRuntime) -> io::Result<()> {
     blocks(&rt)?;
+    full_blocks(&rt)?;
+    of_a_module(&rt)?;
     short_streams(&rt)?;
     long_streams(&rt)
 }

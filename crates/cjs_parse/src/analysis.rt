@@ -37,8 +37,8 @@ fn walk(tables: &mut FindingsTables, tree: &Tree) -> Result<(), FindingsFault>
 }
 
 /// Finds the CommonJS exports and re-exports of a program: one walk over its rows, and what it leaves in the tables.
-/// Where a table has no free row for a new entry, it is refused at the row where the walk acted, and every row of the
-/// tables is zero.
+/// Where something new is found and its table has no row left, the program is refused at the row where the walk acted,
+/// and every row of the tables is zero.
 #[tactic(auto, using(crate::proofs::Laws::walk_laws))]
 pub fn analyze_cjs(program: ProgramRef, tables: &mut FindingsTables) -> Result<(), FindingsFault>
     ensures analysed { Analysed (tree_module (program_tree program.entry)) tables.old (cjs_outcome (room_of tables.old) (tree_text (program_tree program.entry)) (tree_rows (program_tree program.entry))) result tables.new }

@@ -4,7 +4,7 @@ ghost use Rattle.findings.specs.Tables.{describe};
 
 use fault::{Fault, Layer};
 
-/// A findings table had no free row for a new entry: the module that the tree belongs to, and the row at which the
+/// A findings table had no row left for something new: the module that the tree belongs to, and the row at which the
 /// analysis stood.
 // An enum, of one case so far, as `TreeFault` is: callers match on it, and a later refusal is a case more.
 #[derive(Clone, Copy, PartialEq, Eq, Debug)]

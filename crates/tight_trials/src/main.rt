@@ -32,7 +32,13 @@ fn main(rt: HostRuntime) -> io::Result<()> {
     while let Some((head, more)) = rest.split_at_checked(16) {
         let block = more.get(0..4 + number(more, 0)).unwrap_or(more);
         let mut input = block;
-        answer_stream(heap, LineKind::Findings, sizes(head), &mut input, &mut output)?;
+        answer_stream(
+            heap,
+            LineKind::Findings,
+            sizes(head),
+            &mut input,
+            &mut output,
+        )?;
         rest = &more[block.len()..];
     }
     output.flush()
