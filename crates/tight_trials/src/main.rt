@@ -29,8 +29,13 @@ fn main(rt: HostRuntime) -> io::Result<()> {
     rt.stdin().read_to_end(&mut trials)?;
     let mut output = BufWriter::new(heap, rt.stdout())?;
     let mut rest = trials.as_slice();
-    while let Some((head, more)) = rest.split_at_checked(16) {
-        let block = more.get(0..4 + number(more, 0)).unwrap_or(more);
+    // Each turn takes a trial, which has some bytes.
+    for _ in 0..trials.len() {
+        let Some((head, more)) = rest.split_at_checked(16) else {
+            break;
+        };
+        let length = read_le32(more, 0) as usize;
+        let block = more.get(0..4 + length).unwrap_or(more);
         let mut input = block;
         answer_stream(
             heap,
