@@ -66,7 +66,37 @@ pub(crate) fn full(heap: Global) -> Result<Vec<u8>, AllocError> {
     Ok(block)
 }
 
-/// The same block with another byte at a place.
+/// Adds the last five decimal digits of a number.
+fn put_digits(text: &mut Vec<u8>, number: u32) -> Result<(), AllocError> {
+    for unit in [10_000, 1_000, 100, 10, 1u32] {
+        let digit = (number / unit % 10) as u8;
+        text.extend_from_slice(&[b'0' + digit])?;
+    }
+    Ok(())
+}
+
+/// A script that exports as many names as a block has rows for, by one assignment of an object. Each has five digits.
+pub(crate) fn names(heap: Global) -> Result<Vec<u8>, AllocError> {
+    let mut block = Vec::new(heap);
+    put(&mut block, &[16, 1_310_720, 1_310_736, 327_667])?;
+    put(&mut block, &row(Kind::Program, 1, 65_536))?;
+    put(&mut block, &row(Kind::Assign, 0, 65_536))?;
+    put(&mut block, &[Kind::Ident.number(), 0, 0, 7, 3])?;
+    put(&mut block, &row(Kind::Object, 0, 65_536))?;
+    for j in 4..65_536u32 {
+        put(
+            &mut block,
+            &[Kind::Shorthand.number(), 0, 5 * j - 13, 5, j + 1],
+        )?;
+    }
+    block.extend_from_slice(b"exports")?;
+    for j in 4..65_536u32 {
+        put_digits(&mut block, j)?;
+    }
+    Ok(block)
+}
+
+/// The largest block of the most rows, with another byte at a place.
 pub(crate) fn full_but(heap: Global, at: usize, byte: u8) -> Result<Vec<u8>, AllocError> {
     let mut block = full(heap)?;
     if let Some(there) = block.get_mut(at) {

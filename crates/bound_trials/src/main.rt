@@ -4,7 +4,7 @@
 mod build;
 
 use answers::{LONGEST_BLOCK, LineKind, ReportText, Sizes, answer_stream, report_for};
-use build::{chain, flat, framed, full, full_but, padded};
+use build::{chain, flat, framed, full, full_but, names, padded};
 use std::io;
 use std::io::Read;
 
@@ -72,6 +72,19 @@ fn full_blocks(rt: &HostRuntime) -> io::Result<()> {
     )
 }
 
+/// How long the longest list is: a comma stands before each name but the first.
+fn most_names(rt: &HostRuntime) -> io::Result<()> {
+    let heap = rt.alloc();
+    let block = names(heap)?;
+    let head = (block.len().min(LONGEST_BLOCK) as u32).to_le_bytes();
+    let mut line = Vec::new(heap);
+    let (kind, sizes) = (LineKind::Findings, Sizes::LARGEST);
+    let mut input = head.as_slice().chain(block.as_slice());
+    answer_stream(heap, kind, sizes, &mut input, &mut line)?;
+    let commas = line.iter().filter(|byte| **byte == b',').count();
+    println!(rt; "commas in the line of the most names: {commas}")
+}
+
 /// A block of another module than 0.
 fn of_a_module(rt: &HostRuntime) -> io::Result<()> {
     println!(rt; "no bytes, of module 7: {}", ReportText(report_for(7, b"")))
@@ -134,6 +147,7 @@ fn long_streams(rt: &HostRuntime) -> io::Result<()> {
 fn main(rt: HostRuntime) -> io::Result<()> {
     blocks(&rt)?;
     full_blocks(&rt)?;
+    most_names(&rt)?;
     of_a_module(&rt)?;
     short_streams(&rt)?;
     long_streams(&rt)
