@@ -1,8 +1,10 @@
 //! What hosts refuse. docs/FAULTS.md has the numbers.
-ghost use Rattle.std.specs.Prelude.{◌≡◌};
-ghost use Rattle.host.specs.Refused.{describe};
+ghost use Rattle.std.specs.Prelude.{◌≡◌, Some};
+ghost use Rattle.host.specs.Refused.{describe, reason_words};
 
 use fault::{Fault, Layer};
+use std::error::Error;
+use std::fmt;
 
 /// The refusal of a shelf's bytes, or of a question about a module that the host does not have.
 #[derive(Clone, Copy, PartialEq, Eq, Debug)]
@@ -28,3 +30,18 @@ impl From<HostFault> for Fault {
         }
     }
 }
+
+/// What the refusal says, in words.
+impl fmt::Display for HostFault {
+    ghost output = { λ x. Some (reason_words x) };
+
+    fn fmt<W: fmt::Write>(&self, f: &mut fmt::Formatter<W>) -> fmt::Result {
+        f.write_str(match self {
+            HostFault::Shelf => "the bytes are no lawful shelf",
+            HostFault::Beyond { .. } => "the host has no such module",
+        })
+    }
+}
+
+/// No error lies under a refusal.
+impl Error for HostFault {}
