@@ -1,0 +1,4 @@
+pub mod Segments
+pub mod Behind
+pub mod Join
+pub mod Backwards
