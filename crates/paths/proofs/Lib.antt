@@ -1,1 +1,5 @@
 pub mod Split
+pub mod Walk
+pub mod Together
+pub mod Endings
+pub mod NamesWhole

@@ -2,3 +2,4 @@ pub mod Segments
 pub mod Behind
 pub mod Join
 pub mod Backwards
+pub mod Joined

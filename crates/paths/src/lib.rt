@@ -2,5 +2,10 @@
 #![tactic(auto)]
 
 mod cut;
+mod joined;
 mod names;
+mod path;
 mod segments;
+
+pub use joined::Joined;
+pub use path::is_path;

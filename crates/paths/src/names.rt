@@ -13,14 +13,14 @@ pub(crate) struct Names<'a> {
 }
 
 /// Whether a segment is `.`.
-fn is_dot(segment: &[u8]) -> bool
+pub(crate) fn is_dot(segment: &[u8]) -> bool
     ensures { result ≡ is_dot segment.now }
 {
     segment == b".".as_slice()
 }
 
 /// Whether a segment is `..`.
-fn is_dots(segment: &[u8]) -> bool
+pub(crate) fn is_dots(segment: &[u8]) -> bool
     ensures { result ≡ is_dots segment.now }
 {
     segment == b"..".as_slice()
