@@ -8,7 +8,7 @@ use shelf::Pairs;
 use text::read_le32;
 
 /// Where the pairs of the blocks begin: after the two counts.
-const BLOCKS_START: u32 = 8;
+const BLOCKS_START: usize = 8;
 
 /// How many bytes a pair takes.
 const PAIR_BYTES: usize = 8;
@@ -47,7 +47,7 @@ pub(crate) fn blocks(bytes: &[u8]) -> Pairs<'_>
 pub(crate) fn links_start(bytes: &[u8]) -> usize
     ensures { result ≡ links_start bytes.now }
 {
-    BLOCKS_START as usize + PAIR_BYTES * module_count(bytes) as usize
+    BLOCKS_START + PAIR_BYTES * module_count(bytes) as usize
 }
 
 /// A link, by its number.

@@ -1,7 +1,7 @@
 //! What the kinds of shelf share: pairs of an offset and a length, and the rule for the blocks of modules.
 #![tactic(auto)]
 
-ghost use Rattle.std.specs.Prelude.{◌≡◌, ◌≤◌, length, Decides};
+ghost use Rattle.std.specs.Prelude.{◌≡◌, ◌≤◌, ◌<◌, ◌^◌, length, Decides};
 ghost use Rattle.text.specs.Place.{stretch};
 ghost use Rattle.shelf.specs.Pairs.{EachBeforeNext, EachInside, LawfulBlocks, NoBlocksOverlap, end_of, pair, place_at};
 
@@ -35,8 +35,9 @@ fn end(place: Place) -> usize
 #[derive(Clone, Copy)]
 pub struct Pairs<'a> {
     pub bytes: &'a [u8],
-    pub start: u32,
+    pub start: usize,
     pub count: u32,
+    ghost near: { start < 2 ^ 36 },
 }
 
 impl<'a> Pairs<'a> {
@@ -44,7 +45,7 @@ impl<'a> Pairs<'a> {
     pub fn place(self, number: u32) -> Place
         ensures { result ≡ pair self.entry.bytes.now self.entry.start number }
     {
-        read_place(self.bytes, self.start as usize + 8 * number as usize)
+        read_place(self.bytes, self.start + 8 * number as usize)
     }
 
     /// The bytes at that place.

@@ -1,0 +1,10 @@
+use Rattle.std.proofs.Common.{◌≡◌, Some, ap, sym, ◌∙◌}
+use Rattle.std.specs.Option.{option_map}
+use Rattle.paths.specs.Join.{join}
+use Rattle.paths.specs.Joined.{joined_names}
+use Rattle.path_shelf.specs.Means.{names_lead}
+use Rattle.path_shelf.proofs.lookup.lookup.Goals as goal
+
+pub returns : goal.returns
+returns c =
+    c.found.ensures ∙ ap (names_lead c.args.bytes.now) c.in_ok-join.ensures ∙ ap (λ p. names_lead c.args.bytes.now (join p c.args.specifier.now)) c.path.ensures

@@ -1,0 +1,5 @@
+pub mod Paths
+pub mod Lawful
+pub mod Means
+pub mod Inside
+pub mod Subject

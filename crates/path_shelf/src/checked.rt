@@ -1,0 +1,73 @@
+//! A checked path shelf, and what it is asked.
+ghost use Rattle.path_shelf.specs.Lawful.{Lawful};
+
+use crate::check::is_path_shelf;
+use crate::layout::{blocks, module_count};
+use crate::lookup::lookup;
+use host::{Host, HostFault};
+use text::Place;
+
+/// The bytes of a path shelf. Only a check makes one, so unchecked bytes cannot be asked.
+#[derive(Clone, Copy)]
+pub struct PathShelf<'a> {
+    bytes: &'a [u8],
+    ghost lawful: { Lawful bytes.now },
+}
+
+impl<'a> PathShelf<'a> {
+    ghost use Rattle.path_shelf.specs.Subject.{IsCheckOf, IsPlaceAnswer, shelf_bytes};
+
+    /// Checks the bytes of a shelf. It reads nothing outside them.
+    pub fn check(bytes: &'a [u8]) -> Result<Self, HostFault>
+        ensures { IsCheckOf bytes.now result }
+    {
+        if is_path_shelf(bytes) {
+            Ok(PathShelf { bytes })
+        } else {
+            Err(HostFault::Shelf)
+        }
+    }
+
+    /// The place of a module's block in the shelf.
+    pub fn block_place(&self, module: u32) -> Result<Place, HostFault>
+        ensures { IsPlaceAnswer (shelf_bytes self.now) «module» result }
+    {
+        if module < module_count(self.bytes) {
+            Ok(blocks(self.bytes).place(module))
+        } else {
+            Err(HostFault::Beyond { module })
+        }
+    }
+}
+
+/// The answers are those of the shelf's bytes.
+impl<'a> Host<'a> for PathShelf<'a> {
+    ghost use Rattle.std.specs.Prelude.{IfOk};
+    ghost use Rattle.host.specs.Answer.{IsBlockAnswer};
+    ghost use Rattle.path_shelf.specs.Paths.{block_place};
+    ghost use Rattle.path_shelf.specs.Means.{means};
+    ghost use Rattle.path_shelf.specs.Subject.{IsPartAt, shelf_bytes};
+    ghost use Rattle.path_shelf.specs.Inside.{leads_inside};
+
+    ghost meaning = { λ shelf. means (shelf_bytes shelf) };
+
+    fn count(&self) -> u32 {
+        module_count(self.bytes)
+    }
+
+    fn block(&self, module: u32) -> Result<&'a [u8], HostFault>
+        ensures answer { IsBlockAnswer (means (shelf_bytes self.now)) «module» result }
+        ensures place { IfOk result (λ block. IsPartAt (shelf_bytes self.now) (block_place (shelf_bytes self.now) «module») block.now) }
+    {
+        Ok(self.block_place(module)?.part(self.bytes))
+    }
+
+    fn locate(&mut self, module: u32, specifier: &[u8]) -> Result<Option<u32>, HostFault> {
+        if module >= module_count(self.bytes) {
+            return Err(HostFault::Beyond { module });
+        }
+        Ok(lookup(self.bytes, module, specifier))
+    }
+
+    ghost leads_inside = { λ shelf from specifier to inside e. leads_inside (shelf_bytes shelf) specifier from to e };
+}
