@@ -1,5 +1,5 @@
 -- The answers to the questions that name a module.
-use Rattle.std.specs.Prelude.{◌≡◌, ℕ, ◌<◌, ◌≤◌, cond, ltb, List, Option, Some, None, Result, Ok, Err, MatchResult}
+use Rattle.std.specs.Prelude.{◌≡◌, ℕ, ◌<◌, ◌≤◌, cond, ltb, List, Option, Result, Ok, Err, MatchResult}
 use denote.Ref.{Bor}
 use Rattle.host.specs.declared.refusal.HostFault.{HostFault}
 use Rattle.host.specs.declared.refusal.HostFault.TheVariants.{Beyond}

@@ -3,11 +3,11 @@
 
 mod refusal;
 
-pub use refusal::HostFault;
-
 ghost use Rattle.std.specs.Prelude.{◌≡◌};
 ghost use Rattle.host.specs.Answer.{IsBlockAnswer, lookup_answer};
 ghost use Rattle.host.specs.Meaning.{LeadsInside, Meaning};
+
+pub use refusal::HostFault;
 
 /// A host of modules, whose blocks outlive it. All that it is asked is answered by its meaning, which never changes.
 pub trait Host<'a> {

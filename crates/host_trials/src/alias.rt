@@ -6,10 +6,10 @@ use host::{Host, HostFault};
 
 /// A host in which the specifier `from` stands for `to`.
 #[derive(Drop)]
-pub struct Alias<'t, H> {
-    pub below: H,
-    pub from: &'t [u8],
-    pub to: &'t [u8],
+pub(crate) struct Alias<'t, H> {
+    pub(crate) below: H,
+    pub(crate) from: &'t [u8],
+    pub(crate) to: &'t [u8],
 }
 
 /// What is asked below for a specifier.

@@ -1,5 +1,5 @@
 -- The target of a link that a search came to.
-use Rattle.std.proofs.Common.{◌≡◌, ℕ, Option, Some, None, MatchOption, IsSomeAnd, ap, refl}
+use Rattle.std.proofs.Common.{◌≡◌, ℕ, Option, Some, None, MatchOption, IsSomeAnd, ap}
 use Rattle.std.specs.Option.{option_map}
 use Rattle.link_shelf.specs.declared.link.Link.{Link}
 

@@ -1,10 +1,10 @@
 -- A lawful shelf leads to its own modules only.
-use Rattle.std.specs.Prelude.{◌≡◌, ℕ, ◌<◌, ◌≤◌, ◌+◌, suc, zero, List, [], ◌∷◌, map, Bool, true, false, cond, Option, Some, None}
+use Rattle.std.specs.Prelude.{◌≡◌, ℕ, ◌<◌, ◌≤◌, ◌+◌, suc, zero, List, map, Bool, true, false, cond, Option, Some}
 use Rattle.std.specs.List.{find, range_with_len}
 use Rattle.std.specs.Option.{option_map}
 use Rattle.std.proofs.Common.{arith}
 use Rattle.link_shelf.specs.declared.link.Link.{Link}
-use Rattle.link_shelf.specs.Lawful.{Lawful, LawfulLink}
+use Rattle.link_shelf.specs.Lawful.{Lawful}
 use Rattle.link_shelf.specs.Links.{link, link_count, links, module_count}
 use Rattle.link_shelf.specs.Means.{is_of, leads}
 

@@ -2,8 +2,8 @@
 #![tactic(auto)]
 
 mod check;
+mod checked;
 mod layout;
 mod link;
-mod checked;
 
 pub use checked::LinkShelf;

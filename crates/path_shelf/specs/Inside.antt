@@ -7,7 +7,7 @@ use Rattle.std.proofs.Common.{arith}
 use Rattle.paths.specs.Join.{Held, join}
 use Rattle.paths.specs.Segments.{text_of}
 use Rattle.path_shelf.specs.Paths.{module_count, path_of}
-use Rattle.path_shelf.specs.Means.{first_with, found, leads, names_lead}
+use Rattle.path_shelf.specs.Means.{first_with, leads, names_lead}
 
 module _ (count to : ℕ) where
   -- it leads to a module

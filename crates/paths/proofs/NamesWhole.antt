@@ -1,5 +1,5 @@
 -- The names of a joined path have no slash in them.
-use Rattle.std.proofs.Common.{◌≡◌, ℕ, List, Option, Some, None}
+use Rattle.std.proofs.Common.{ℕ, List, Option, Some, None}
 use denote.Ref.{Bor}
 use Rattle.paths.specs.Behind.{behind}
 use Rattle.paths.specs.Joined.{joined_names}

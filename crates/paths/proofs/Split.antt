@@ -1,12 +1,12 @@
 -- Texts and their segments: cut at a slash, and put together again.
-use Rattle.std.proofs.Common.{◌≡◌, ◌≢◌, ℕ, suc, zero, ◌+◌, ◌-◌, ◌<◌, ◌≤◌, Bool, true, false, cond, List, [], ◌∷◌, ◌++◌, reverse, length, get_or, take, drop, drop-cons, refl, ap, sym, ◌∙◌, subst, arith, append_assoc}
-use Rattle.std.specs.List.{All, join_with_byte, onto_first, slice_split}
+use Rattle.std.proofs.Common.{◌≡◌, ◌≢◌, ℕ, suc, ◌+◌, ◌-◌, ◌<◌, ◌≤◌, Bool, true, false, List, [], ◌∷◌, ◌++◌, reverse, length, get_or, take, drop, drop-cons, refl, ap, sym, ◌∙◌, subst, arith}
+use Rattle.std.specs.List.{All, onto_first}
 use Rattle.std.proofs.lemmas.List.{get_or-drop, length-drop, length-reverse, reverse-append, take-append-drop, take_all}
 use Rattle.std.proofs.lemmas.List.Elements.{All-from_get_or}
 use Rattle.std.proofs.lemmas.List.Sums.{count_by-le-length}
 use Rattle.std.proofs.lemmas.Bool.{ne_eqb}
-use Rattle.std.proofs.lemmas.List.Splits.{slice_split-cons_yes, slice_split-cons_no, slice_split_none, slice_split_at, length-slice_split}
-use Rattle.paths.specs.Segments.{Segment, is_slash, segments, text_of}
+use Rattle.std.proofs.lemmas.List.Splits.{slice_split-cons_yes, slice_split-cons_no, slice_split_none, length-slice_split}
+use Rattle.paths.specs.Segments.{Segment, is_slash, segments}
 
 onto_first-append : (x : ℕ) (ls ms : List Segment) → 0 < length ls → onto_first x (ls ++ ms) ≡ onto_first x ls ++ ms
 onto_first-append x [] ms h = absurd (omega arith)
@@ -38,8 +38,8 @@ no_slash : (t : List ℕ) (s : ℕ) → ((k : ℕ) → s ≤ k → k < length t 
 no_slash t s none =
     All-from_get_or (λ x. is_slash x ≡ false) (drop s t) 0
     (λ i h.
-        let k : s + i < length t = omega (arith, length-drop s t) in
-        ne_eqb (get_or (drop s t) i 0) 47 (λ e. none (s + i) (omega arith) k (sym (get_or-drop s t i 0) ∙ e)))
+    let k : s + i < length t = omega (arith, length-drop s t) in
+    ne_eqb (get_or (drop s t) i 0) 47 (λ e. none (s + i) (omega arith) k (sym (get_or-drop s t i 0) ∙ e)))
 
 to_end : (t : List ℕ) (s : ℕ) → take (length t - s) (drop s t) ≡ drop s t
 to_end t s = take_all (length t - s) (drop s t) (omega (arith, length-drop s t))

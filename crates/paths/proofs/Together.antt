@@ -1,6 +1,6 @@
 -- Segments put together with slashes between them, and cut again.
-use Rattle.std.proofs.Common.{◌≡◌, ◌↔◌, ℕ, zero, suc, ◌+◌, ◌-◌, ◌<◌, ◌≤◌, eqb, Bool, true, false, cond, List, [], ◌∷◌, ◌++◌, reverse, length, drop, refl, ap, sym, ◌∙◌, subst, arith}
-use Rattle.std.specs.List.{All, onto_first, slice_split}
+use Rattle.std.proofs.Common.{◌≡◌, ◌↔◌, ℕ, zero, suc, ◌+◌, ◌-◌, ◌<◌, eqb, Bool, true, false, cond, List, [], ◌∷◌, ◌++◌, reverse, length, drop, refl, ap, sym, ◌∙◌, subst, arith}
+use Rattle.std.specs.List.{All, onto_first}
 use Rattle.std.proofs.lemmas.List.{reverse-append, reverse-reverse, length-reverse}
 use Rattle.std.proofs.lemmas.List.Splits.{join_with_byte-slice_split, slice_split-cons_no, slice_split-cons_yes, slice_split_at, slice_split_none}
 use Rattle.paths.specs.Segments.{Segment, is_dot, is_dots, is_slash, segments, text_of}

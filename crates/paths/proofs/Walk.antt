@@ -1,11 +1,11 @@
 -- Segments taken in one after the other come to the names that last, read from the end.
-use Rattle.std.proofs.Common.{◌≡◌, ℕ, zero, suc, ◌+◌, ◌-◌, ◌<◌, ◌⊎◌, inl, inr, Bool, true, false, cond, eqb, leb, List, [], ◌∷◌, ◌++◌, reverse, length, drop, Option, Some, None, refl, ap, sym, ◌∙◌, subst, arith, add-one, true≢false}
+use Rattle.std.proofs.Common.{◌≡◌, ℕ, zero, suc, ◌+◌, ◌-◌, ◌<◌, ◌⊎◌, inl, inr, Bool, true, false, cond, eqb, leb, List, [], ◌∷◌, ◌++◌, reverse, length, drop, Some, None, refl, ap, sym, ◌∙◌, arith, add-one, true≢false}
 use Rattle.std.specs.List.{fold}
 use Rattle.std.proofs.Math.Dec.{leb-suc-suc, leb-suc-zero, leb-zero}
 use Rattle.std.proofs.lemmas.Bool.{ne_eqb}
 use Rattle.std.proofs.lemmas.List.{reverse-append}
 use Rattle.paths.specs.Segments.{Segment, is_dot, is_dots, is_empty, segments}
-use Rattle.paths.specs.Join.{Held, folder, is_relative, join, others, some_names, take_in, taken, without_last}
+use Rattle.paths.specs.Join.{Held, folder, is_relative, join, others, some_names, take_in, without_last}
 use Rattle.paths.specs.Backwards.{lasting, stays}
 
 -- the same walk over segments that come the last one first
@@ -57,11 +57,10 @@ module _ (base : List Segment) where
 
   one_more : (s : Segment) (names : List Segment) (up : ℕ) (rs : List Segment) → ((k : ℕ) → Agrees (Some names) k rs) → AgreesWith (Some (s ∷ names)) up (stays base (up - 1) rs) (cond (eqb up 0) (s ∷ lasting base 0 rs) (lasting base (up - 1) rs))
   one_more s names zero rs h = ((h 0).0 ∙ leb_least (length names), ap (λ l. s ∷ l) (h 0).1)
-  one_more s names (suc u) rs h =
-      (
-        ap (λ k. stays base k rs) (less_one u) ∙ (h u).0 ∙ sym (leb-suc-suc u (length names)),
-        past_zero u (s ∷ lasting base 0 rs) (lasting base (suc u - 1) rs) ∙ ap (λ k. lasting base k rs) (less_one u) ∙ (h u).1,
-      )
+  one_more s names (suc u) rs h = (
+    ap (λ k. stays base k rs) (less_one u) ∙ (h u).0 ∙ sym (leb-suc-suc u (length names)),
+    past_zero u (s ∷ lasting base 0 rs) (lasting base (suc u - 1) rs) ∙ ap (λ k. lasting base k rs) (less_one u) ∙ (h u).1,
+  )
 
   some_by : (e d u : Bool) (s : Segment) (names : List Segment) (up : ℕ) (rs : List Segment) → ((k : ℕ) → Agrees (Some names) k rs)
       → AgreesWith (cond e None (cond d (Some names) (cond u (without_last names) (Some (s ∷ names))))) up

@@ -1,7 +1,5 @@
-use Rattle.std.proofs.Common.{◌≡◌, Some, ap, sym, ◌∙◌}
-use Rattle.std.specs.Option.{option_map}
+use Rattle.std.proofs.Common.{ap, ◌∙◌}
 use Rattle.paths.specs.Join.{join}
-use Rattle.paths.specs.Joined.{joined_names}
 use Rattle.path_shelf.specs.Means.{names_lead}
 use Rattle.path_shelf.proofs.lookup.lookup.Goals as goal
 

@@ -1,4 +1,4 @@
-use Rattle.std.proofs.Common.{◌≡◌, ℕ, ◌+◌, ◌<◌, ◌^◌, [], drop, length}
+use Rattle.std.proofs.Common.{◌≡◌, ◌+◌, ◌<◌, ◌^◌, [], drop, length}
 use Rattle.paths.specs.Backwards.{lasting, names_to_come, to_come}
 use Rattle.paths.proofs.names.NamesIterator.next.Given as goal
 
