@@ -14,11 +14,13 @@ pub struct LinkShelf<'a> {
 }
 
 impl<'a> LinkShelf<'a> {
+    ghost use Rattle.link_shelf.specs.FirstLink.{FirstLinkAnswers};
     ghost use Rattle.link_shelf.specs.Subject.{IsCheckOf, IsPlaceAnswer, shelf_bytes};
 
     /// Checks the bytes of a shelf. It reads nothing outside them.
     pub fn check(bytes: &'a [u8]) -> Result<Self, HostFault>
-        ensures { IsCheckOf bytes.now result }
+        ensures checked { IsCheckOf bytes.now result }
+        ensures first { FirstLinkAnswers }
     {
         if is_link_shelf(bytes) {
             Ok(LinkShelf { bytes })

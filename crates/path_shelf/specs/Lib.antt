@@ -3,3 +3,4 @@ pub mod Lawful
 pub mod Means
 pub mod Inside
 pub mod Subject
+pub mod Lowest

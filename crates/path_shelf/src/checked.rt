@@ -15,11 +15,13 @@ pub struct PathShelf<'a> {
 }
 
 impl<'a> PathShelf<'a> {
+    ghost use Rattle.path_shelf.specs.Lowest.{LowestAnswers};
     ghost use Rattle.path_shelf.specs.Subject.{IsCheckOf, IsPlaceAnswer, shelf_bytes};
 
     /// Checks the bytes of a shelf. It reads nothing outside them.
     pub fn check(bytes: &'a [u8]) -> Result<Self, HostFault>
-        ensures { IsCheckOf bytes.now result }
+        ensures checked { IsCheckOf bytes.now result }
+        ensures lowest { LowestAnswers }
     {
         if is_path_shelf(bytes) {
             Ok(PathShelf { bytes })

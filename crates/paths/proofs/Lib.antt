@@ -3,3 +3,4 @@ pub mod Walk
 pub mod Together
 pub mod Endings
 pub mod NamesWhole
+pub mod JoinedPaths

@@ -22,7 +22,7 @@ append_whole : (ss ts : List Segment) → AllWhole ss → AllWhole ts → AllWho
 append_whole [] ts h g = g
 append_whole (s ∷ ss) ts h g = (h.0, append_whole ss ts h.1 g)
 
-reverse_whole : (ss : List Segment) → AllWhole ss → AllWhole (reverse ss)
+pub reverse_whole : (ss : List Segment) → AllWhole ss → AllWhole (reverse ss)
 reverse_whole [] h = tt
 reverse_whole (s ∷ ss) h = subst AllWhole (sym (reverse-append (s ∷ []) ss)) (append_whole (reverse ss) (s ∷ []) (reverse_whole ss h.1) (h.0, tt))
 
@@ -39,7 +39,7 @@ segments_whole_by : (x : ℕ) (t : List ℕ) (b : Bool) → is_slash x ≡ b →
 segments_whole_by x t true e h = subst AllWhole (sym (slice_split-cons_yes is_slash x t e)) ((λ k d lt. absurd (omega arith)), h)
 segments_whole_by x t false e h = subst AllWhole (sym (slice_split-cons_no is_slash x t e)) (onto_whole x (segments t) e h)
 
-segments_whole : (t : List ℕ) → AllWhole (segments t)
+pub segments_whole : (t : List ℕ) → AllWhole (segments t)
 segments_whole [] = ((λ k d lt. absurd (omega arith)), tt)
 segments_whole (x ∷ t) = segments_whole_by x t (is_slash x) refl (segments_whole t)
 
@@ -59,7 +59,7 @@ module _ (base : List Segment) (base_whole : AllWhole base) where
       lasting_by (is_dot s) (is_dots s) (eqb up 0) s _ _ _ _ h.0 (lasting_whole rs h.1 up) (lasting_whole rs h.1 (up + 1)) (lasting_whole rs h.1 0) (lasting_whole rs h.1 (up - 1))
 
 -- segments put together are cut into the same segments
-segments-text_of : (ss : List Segment) → AllWhole ss → 0 < length ss → segments (text_of ss) ≡ ss
+pub segments-text_of : (ss : List Segment) → AllWhole ss → 0 < length ss → segments (text_of ss) ≡ ss
 segments-text_of [] h some = absurd (omega arith)
 segments-text_of (s ∷ []) h some = slice_split_none is_slash s h.0
 segments-text_of (s ∷ r ∷ ss) h some =

@@ -3,3 +3,4 @@ pub mod Behind
 pub mod Join
 pub mod Backwards
 pub mod Joined
+pub mod JoinedPath

@@ -28,11 +28,14 @@ impl<'a> Joined<'a> {
     ghost use Rattle.std.specs.Str.{bytes_eq};
     ghost use Rattle.paths.specs.Join.{join};
     ghost use Rattle.paths.specs.Joined.{joined_names, joined_text};
+    ghost use Rattle.paths.specs.JoinedPath.{JoinedIsPath};
     ghost use Rattle.paths.specs.Segments.{segments};
 
     /// The path that a specifier comes to, or none where it leads nowhere.
+    #[tactic(auto, using(crate::proofs::JoinedPaths::joined_is_path))]
     pub fn join(path: &'a [u8], specifier: &'a [u8]) -> Option<Self>
-        ensures { option_map joined_names result ≡ join path.now specifier.now }
+        ensures joined { option_map joined_names result ≡ join path.now specifier.now }
+        ensures path { JoinedIsPath }
     {
         if !is_relative(specifier) {
             return None;

@@ -5,4 +5,4 @@ use Rattle.path_shelf.proofs.lookup.lookup.Goals as goal
 
 pub returns : goal.returns
 returns c =
-    c.found.ensures ∙ ap (names_lead c.args.bytes.now) c.in_ok-join.ensures ∙ ap (λ p. names_lead c.args.bytes.now (join p c.args.specifier.now)) c.path.ensures
+    c.found.ensures ∙ ap (names_lead c.args.bytes.now) c.in_ok-join.ensures.joined ∙ ap (λ p. names_lead c.args.bytes.now (join p c.args.specifier.now)) c.path.ensures

@@ -12,23 +12,23 @@ use Rattle.paths.proofs.joined.Joined.join.Goals as goal
 pub invariant_of-names : goal.invariant_of-names
 invariant_of-names c = record { few = omega (arith, few_segments c.args.path.now, ap length c.cut_last.ensures) }
 
-pub returns-then-not-stay : goal.returns-then-not-stay
-returns-then-not-stay c =
+pub returns-then-not-stay-clause-joined : goal.returns-then-not-stay-clause-joined
+returns-then-not-stay-clause-joined c =
     let base = behind c.cut_last.result.1 in
     let relative : is_relative c.args.specifier.now ≡ true = cc in
     not_joined c.args.path.now c.args.specifier.now c.cut_last.result.0.now base c.cut_last.ensures relative
     (inl (ap (stays base 0) (sym c.of.ensures) ∙ sym c.stay.ensures ∙ c.if-not-stay.true))
 
-pub returns-in_err-next : goal.returns-in_err-next
-returns-in_err-next c =
+pub returns-in_err-next-clause-joined : goal.returns-in_err-next-clause-joined
+returns-in_err-next-clause-joined c =
     let base = behind c.cut_last.result.1 in
     let relative : is_relative c.args.specifier.now ≡ true = cc in
     ap (option_map joined_names) c.from_residual.ensures
     ∙ not_joined c.args.path.now c.args.specifier.now c.cut_last.result.0.now base c.cut_last.ensures relative
     (inr (ap (lasting base 0) (sym c.of.ensures) ∙ c.in_err-next.ensures.steps.0))
 
-pub returns : goal.returns
-returns c =
+pub returns-clause-joined : goal.returns-clause-joined
+returns-clause-joined c =
     let base = behind c.cut_last.result.1 in
     let relative : is_relative c.args.specifier.now ≡ true = cc in
     let last = ap length (ap (lasting base 0) (sym c.of.ensures) ∙ c.in_ok-next.ensures.steps) in
