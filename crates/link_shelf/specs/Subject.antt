@@ -1,8 +1,6 @@
 -- A checked link shelf, by its bytes.
-use Rattle.std.specs.Prelude.{◌≡◌, ℕ, ◌<◌, ◌≤◌, List, length, Result, MatchResult}
+use Rattle.std.specs.Prelude.{◌≡◌, ℕ, ◌<◌, ◌≤◌, List, Result, MatchResult}
 use Rattle.text.specs.declared.place.Place.{Place}
-use Rattle.text.specs.Place.{stretch}
-use Rattle.shelf.specs.Pairs.{end_of}
 use Rattle.host.specs.declared.refusal.HostFault.{HostFault}
 use Rattle.host.specs.declared.refusal.HostFault.TheVariants.{Shelf, Beyond}
 use Rattle.link_shelf.specs.declared.checked.LinkShelf.{LinkShelf}
@@ -21,7 +19,3 @@ IsCheckOf bytes answer = MatchResult answer (λ shelf. Lawful bytes × (shelf_by
 abbrev pub IsPlaceAnswer : List ℕ → ℕ → Result Place HostFault → Type 0
 IsPlaceAnswer bytes m answer =
     MatchResult answer (λ place. (m < module_count bytes) × (place ≡ block_place bytes m)) (λ fault. (module_count bytes ≤ m) × (fault ≡ Beyond m))
-
--- the block is the part of the shelf's own bytes at its place, whole
-abbrev pub IsPartAt : List ℕ → Place → List ℕ → Type 0
-IsPartAt bytes place part = (end_of place ≤ length bytes) × (part ≡ stretch bytes place.offset place.length) × (length part ≡ place.length)

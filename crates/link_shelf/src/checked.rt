@@ -45,9 +45,10 @@ impl<'a> LinkShelf<'a> {
 impl<'a> Host<'a> for LinkShelf<'a> {
     ghost use Rattle.std.specs.Prelude.{IfOk};
     ghost use Rattle.host.specs.Answer.{IsBlockAnswer};
+    ghost use Rattle.shelf.specs.Pairs.{IsPartAt};
     ghost use Rattle.link_shelf.specs.Links.{block_place};
     ghost use Rattle.link_shelf.specs.Means.{means};
-    ghost use Rattle.link_shelf.specs.Subject.{IsPartAt, shelf_bytes};
+    ghost use Rattle.link_shelf.specs.Subject.{shelf_bytes};
     ghost use Rattle.link_shelf.specs.Inside.{leads_inside};
 
     ghost meaning = { λ shelf. means (shelf_bytes shelf) };

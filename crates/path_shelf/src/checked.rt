@@ -46,9 +46,10 @@ impl<'a> PathShelf<'a> {
 impl<'a> Host<'a> for PathShelf<'a> {
     ghost use Rattle.std.specs.Prelude.{IfOk};
     ghost use Rattle.host.specs.Answer.{IsBlockAnswer};
+    ghost use Rattle.shelf.specs.Pairs.{IsPartAt};
     ghost use Rattle.path_shelf.specs.Paths.{block_place};
     ghost use Rattle.path_shelf.specs.Means.{means};
-    ghost use Rattle.path_shelf.specs.Subject.{IsPartAt, shelf_bytes};
+    ghost use Rattle.path_shelf.specs.Subject.{shelf_bytes};
     ghost use Rattle.path_shelf.specs.Inside.{leads_inside};
 
     ghost meaning = { λ shelf. means (shelf_bytes shelf) };

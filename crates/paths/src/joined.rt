@@ -53,7 +53,7 @@ impl<'a> Joined<'a> {
         Some(Joined { names })
     }
 
-    /// Whether it is the text without its ending.
+    /// Whether a text has these names.
     fn is_all_of(self, text: &[u8]) -> bool
         ensures { Decides result (reverse (segments text.now) ≡ joined_names self.entry) }
     {

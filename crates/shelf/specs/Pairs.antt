@@ -1,6 +1,7 @@
 -- Pairs of an offset and a length, one after the other in the bytes of a shelf.
-use Rattle.std.specs.Prelude.{ℕ, ◌+◌, ◌*◌, ◌<◌, ◌≤◌, List, length}
+use Rattle.std.specs.Prelude.{◌≡◌, ℕ, ◌+◌, ◌*◌, ◌<◌, ◌≤◌, List, length}
 use Rattle.text.specs.Number.{le32}
+use Rattle.text.specs.Place.{stretch}
 use Rattle.text.specs.declared.place.Place.{Place}
 
 -- the place of the pair at byte `at`
@@ -10,6 +11,12 @@ place_at bytes at = record { offset = le32 bytes at; length = le32 bytes (at + 4
 -- where a place ends, as a whole number that does not wrap
 abbrev pub end_of : Place → ℕ
 end_of place = place.offset + place.length
+
+-- a part of the bytes is all that lies at a place within them
+pub record IsPartAt (bytes : List ℕ) (place : Place) (part : List ℕ) : Type 0 where
+  pub inside : end_of place ≤ length bytes
+  pub bytes_there : part ≡ stretch bytes place.offset place.length
+  pub as_long : length part ≡ place.length
 
 -- the place of pair m of the pairs from `start` on
 abbrev pub pair : List ℕ → ℕ → ℕ → Place
