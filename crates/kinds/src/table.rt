@@ -2,6 +2,7 @@
 ghost use Rattle.std.specs.Prelude.{◌≡◌};
 ghost use Rattle.kinds.specs.Number.{number};
 ghost use Rattle.kinds.specs.Shape.{fewest, first_child, highest_mark, last_child, later_child, most, text_of};
+ghost use Rattle.kinds.specs.Table.{ColumnsAreTheTable};
 
 use crate::kind::Kind;
 use crate::shape::Encoding::{Utf8, Wtf8};
@@ -105,8 +106,10 @@ impl Kind {
     }
 
     /// The highest mark of a kind, a number of the block's format.
+    #[tactic(auto, using(crate::proofs::Tried::columns_are_the_table))]
     pub fn highest_mark(self) -> u32
-        ensures { result ≡ highest_mark (number self) }
+        ensures is { result ≡ highest_mark (number self) }
+        ensures table { ColumnsAreTheTable }
     {
         TABLE[self as usize].highest_mark
     }

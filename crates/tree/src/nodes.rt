@@ -3,6 +3,7 @@ ghost use Rattle.std.specs.Prelude.{◌≡◌, ◌==◌, ◌<◌, not, length};
 ghost use Rattle.std.specs.Iterator.{at_most};
 ghost use Rattle.kinds.specs.Number.{number};
 ghost use Rattle.tree.specs.Children.{Gives, GivesTwo, children_of, left, place_of, row_of, width};
+ghost use Rattle.tree.specs.Enclosure.{ChildrenAreEnclosedDirectly, ChildrenCarryTheirRows, ChildrenStandInOrder};
 ghost use Rattle.tree.specs.Subject.{tree_text};
 ghost use Rattle.tree.specs.Texts.{text_at};
 
@@ -101,6 +102,9 @@ impl<'t, 'a> Node<'t, 'a> {
         ensures left { left result ≡ children_of self.entry }
         ensures tree { result.tree.now ≡ self.entry.tree.now }
         ensures parent { result.rows.parent ≡ self.entry.row }
+        ensures direct { ChildrenAreEnclosedDirectly }
+        ensures ordered { ChildrenStandInOrder }
+        ensures carried { ChildrenCarryTheirRows }
     {
         Children {
             tree: self.tree,
