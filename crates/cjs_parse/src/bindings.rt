@@ -2,7 +2,7 @@
 ghost use Rattle.table.specs.Kinds.{bindings};
 ghost use Rattle.table.specs.Table.{InOrder};
 
-use table::Binding;
+use table::{Binding, search_by};
 use text::Place;
 use tree::Node;
 
@@ -26,9 +26,7 @@ impl Bindings<'_> {
         // The order of bindings stands here beside their `Row`: `OrderedTable::find` compares rows, and a row made up
         // for the search would have a value that nobody gave.
         let sought = name.text();
-        let found = self
-            .rows
-            .binary_search_by(|row| row.name.part(self.text).cmp(sought));
+        let found = search_by(self.rows, |row| row.name.part(self.text).cmp(sought));
         Some(self.rows[found.ok()?].value)
     }
 }

@@ -12,5 +12,5 @@ mod table;
 pub use binding::Binding;
 pub use loose_end::LooseEnd;
 pub use row::Row;
-pub use rows::{ascending, is_zero_from};
+pub use rows::{ascending, is_zero_from, search_by};
 pub use table::{Full, OrderedTable};

@@ -1,11 +1,35 @@
-//! Work on lent rows: entry, sifting, and two questions about them.
+//! Work on lent rows: search, entry, sifting, and two questions about them.
 ghost use Rattle.std.specs.Prelude.{◌≡◌, ◌+◌, ◌-◌, ◌<◌, ◌≤◌, ◌++◌, map, length, take, drop, replicate, Decides};
+ghost use Rattle.std.specs.Fn.{ComputesKey};
 ghost use Rattle.std.specs.List.{insert};
+ghost use Rattle.std.specs.List.Sorted.{IsBinarySearchResult, IsSearchInRange};
 ghost use Rattle.table.specs.Kind.{Ordered, held};
 ghost use Rattle.table.specs.Table.{Ascends, without};
 
 use crate::row::Row;
 use crate::table::OrderedTable;
+use std::cmp::Ordering;
+
+/// Where a row compares as equal to what is sought, or the place before the first that compares as greater.
+// No `binary_search_by`, though its promises are the same: it goes on past an equal row and compares the last one once
+// more, and a comparison may read two long texts.
+pub fn search_by<T, F: Fn(&T) -> Ordering>(rows: &[T], compare: F) -> Result<usize, usize>
+    requires { F.IsAlwaysCallable compare }
+    ensures bound { IsSearchInRange result (length rows.now) }
+    ensures position { (order : T → Ordering) → ComputesKey F.FnMut order compare → IsBinarySearchResult order rows.now result }
+{
+    let mut low = 0;
+    let mut high = rows.len();
+    while low < high {
+        let mid = low + (high - low) / 2;
+        match compare(&rows[mid]) {
+            Ordering::Less => low = mid + 1,
+            Ordering::Equal => return Ok(mid),
+            Ordering::Greater => high = mid,
+        }
+    }
+    Err(low)
+}
 
 /// Opens a place at i among the first n rows, and stores the row there.
 pub(crate) fn open_at<R: Copy>(rows: &mut [R], i: usize, n: usize, row: R)

@@ -8,7 +8,7 @@ ghost use Rattle.table.specs.Order.{TotalOrder};
 ghost use Rattle.table.specs.Table.{Rest};
 
 use crate::row::Row;
-use crate::rows::{empty, open_at, sift};
+use crate::rows::{empty, open_at, search_by, sift};
 
 /// No row is free for a new key.
 #[derive(Clone, Copy, PartialEq, Eq, Debug)]
@@ -42,8 +42,7 @@ impl<R: Row> OrderedTable<'_, R> {
         ensures total { TotalOrder R.Row.kind.order }
         ensures stands { PlaceStandsOrBelongs R.Row.kind.order }
     {
-        self.held()
-            .binary_search_by(|row| row.compare(text, needle, from))
+        search_by(self.held(), |row| row.compare(text, needle, from))
     }
 
     /// Enters a row at a place, where there is room. Answers as `insert` and `put` do of a row that is new.

@@ -12,7 +12,7 @@ returns-clause-place g c =
     let k = g.R.Row.kind in
     let key = k.key c.args.text.now in
     let needle = k.key c.args.from.now c.args.needle.now in
-    found k.order key needle g.met.R.Row.total c.held.result.now (rw c.held.ensures (rows_rise k.order key (held c.args.self.now) c.requires.ordered.up)) _ c.binary_search_by.ensures.bound (c.binary_search_by.ensures.position (λ x. k.order (key x) needle) (always_returns_same _ _ _ (λ a r q h. search rules)))
+    found k.order key needle g.met.R.Row.total c.held.result.now (rw c.held.ensures (rows_rise k.order key (held c.args.self.now) c.requires.ordered.up)) _ c.search_by.ensures.bound (c.search_by.ensures.position (λ x. k.order (key x) needle) (always_returns_same _ _ _ (λ a r q h. search rules)))
     ∙ ap (λ xs. place k.order needle (map key xs)) c.held.ensures
 
 pub returns-clause-stands : goal.returns-clause-stands
