@@ -23,6 +23,18 @@ fn read_block(rt: &HostRuntime, path: &str) -> io::Result<Vec<u8>> {
     Ok(block)
 }
 
+/// Writes the name of a file, what the block in it is, and what it lists.
+fn write_named<W: Write>(
+    rt: &HostRuntime,
+    name: &str,
+    block: &[u8],
+    output: &mut W,
+) -> io::Result<()> {
+    write!(output, "{name}: ")?;
+    write_report(rt.alloc(), Sizes::LARGEST, block, output)?;
+    output.flush()
+}
+
 /// Prints what the block in a file is, and what it lists.
 fn tree_command(rt: &HostRuntime, mut args: Args) -> anyhow::Result<()> {
     let (Some(path), None) = (args.next(), args.next()) else {
@@ -30,10 +42,11 @@ fn tree_command(rt: &HostRuntime, mut args: Args) -> anyhow::Result<()> {
     };
     let name = path.as_str();
     let block = read_block(rt, name)?;
-    print!(rt; "{name}: ")?;
-    let mut output = rt.stdout();
-    write_report(rt.alloc(), Sizes::LARGEST, &block, &mut output)?;
-    Ok(())
+    let mut output = BufWriter::new(rt.alloc(), rt.stdout())?;
+    let written = write_named(rt, name, &block, &mut output);
+    // A writer that is dropped writes what it holds: where memory is lacking, the name alone.
+    let _ = output.into_parts();
+    Ok(written?)
 }
 
 /// Whether so many sizes of tables may be given: none, or all four.
