@@ -8,4 +8,5 @@ mod Entered
 mod Named
 mod Walking
 mod Firsts
+mod RequireArg
 mod Laws

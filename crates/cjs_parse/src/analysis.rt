@@ -5,6 +5,7 @@ ghost use Rattle.cjs_law.specs.Rows.{WalkedRowsDecideTheActs};
 ghost use Rattle.cjs_law.specs.Walk.{WalkReachesWhatIsNotSkipped};
 ghost use Rattle.cjs_parse.specs.Outcome.{cjs_outcome};
 ghost use Rattle.cjs_parse.specs.State.{Ends, Sound, state};
+ghost use Rattle.cjs_rules.specs.Rules.{RequiredArgumentIsTheOnlyOneOrBeforeExports};
 ghost use Rattle.findings.specs.Program.{program_tree};
 ghost use Rattle.findings.specs.Tables.{Analysed, nothing, room_of};
 ghost use Rattle.tree.specs.Subject.{tree_module, tree_rows, tree_text};
@@ -45,6 +46,7 @@ pub fn analyze_cjs(program: ProgramRef, tables: &mut FindingsTables) -> Result<(
     ensures walk { WalkReachesWhatIsNotSkipped }
     ensures acts { WalkedRowsDecideTheActs }
     ensures lists { ActsDecideTheLists }
+    ensures argument { RequiredArgumentIsTheOnlyOneOrBeforeExports }
 {
     let tree = program.tree();
     tables.clear();

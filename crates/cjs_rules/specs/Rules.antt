@@ -1,6 +1,6 @@
 -- The CommonJS rules, under the names of the ported source's helpers. docs/DECISIONS.md lists the helpers that have no rule here.
 -- T is the text section.
-use Rattle.std.specs.Prelude.{ℕ, Bool, true, false, cond, not, ◌&&◌, ◌||◌, List, [], ◌∷◌, Some, None, codes, Option, ◌==◌}
+use Rattle.std.specs.Prelude.{◌≡◌, ℕ, Bool, true, false, cond, not, ◌&&◌, ◌||◌, List, [], ◌∷◌, Some, None, codes, Option, ◌==◌}
 use Rattle.std.specs.Str.{bytes_eq}
 use Rattle.kinds.specs.Kinds.{arrow, block, call, computed, fn_expr, getter, ident, key_value, member, method, num, object, other_lit, paren, seq, setter, shorthand, spread, str, «return»}
 use Rattle.kinds.specs.Shape.{among}
@@ -123,6 +123,18 @@ get_export_require_arg T bound args = do
   a ← child 0 args
   none_or_exports T (past args)
   required_or_bound T bound a
+
+-- the same by the number of arguments, as the ported source has it: exactly one, or two of which the second is `exports`
+abbrev pub get_export_require_arg_by_count : List ℕ → (List ℕ → Option Place) → Forest → Option Place
+get_export_require_arg_by_count T bound args = do
+  not (any_of_kind spread args)
+  a ← child 0 args
+  has_count 1 args || has_count 2 args && so (child 1 args >>= (λ b. Some (is_exports_expr T b)))
+  get_expr_require_value T a or_else (is ident a >> bound (text_of T a))
+
+abbrev pub RequiredArgumentIsTheOnlyOneOrBeforeExports : Type 0
+RequiredArgumentIsTheOnlyOneOrBeforeExports =
+    (T : List ℕ) (bound : List ℕ → Option Place) (args : Forest) → get_export_require_arg T bound args ≡ get_export_require_arg_by_count T bound args
 
 -- properties
 
