@@ -8,10 +8,12 @@ use Rattle.fault.specs.declared.Fault.{Fault}
 use Rattle.findings.proofs.Leaving.{lenders_kept, own_lenders}
 use Rattle.findings.specs.Tables.{Hold, Room, kept, room_of}
 use Rattle.findings.specs.declared.tables.FindingsTables.{FindingsTables}
+use Rattle.tree.specs.Subject.{TreeOf, tree_module}
 use Rattle.tree.specs.Verdict.{Verdict}
+use Rattle.tree.specs.declared.tree.Tree.{Tree}
 use Rattle.tree.specs.declared.refusal.TreeFault.{TreeFault}
 use Rattle.block_lines.proofs.Rooms.{cjs_room_kept, es_room_kept}
-use Rattle.block_lines.specs.Analyses.{AnalysisOf}
+use Rattle.block_lines.specs.Analyses.{Analysis}
 use Rattle.block_lines.specs.Lines.{AnswersLineOf, FindingsLineOf, refused}
 use Rattle.block_lines.specs.declared.analyses.Analyses.{Analyses}
 use Rattle.answers.specs.Answers.{FoundLine, LineFor, LinesAfter, MayHave, TablesAfter, WritesFound, line_end, lines_by}
@@ -45,9 +47,12 @@ pub refused_line : (kind : LineKind) (cjs es : Room) (block : List ℕ) (f : Fau
 refused_line Findings cjs es block f v = refused f v
 refused_line Answers cjs es block f v = refused f v
 
-pub tables_after : (block : List ℕ) (s t s' t' : FindingsTables) (r : Result Analyses TreeFault) → AnalysisOf 0 block s t r s' t' → TablesAfter block s t s' t'
-tables_after block s t s' t' (Ok a) h = analysed h.lawful h.cjs_is.tables h.es_is.tables
-tables_after block s t s' t' (Err e) h = as_before _ h.verdict h.cjs_is h.es_is
+-- what is found in a tree of module 0 is found in a block that it is the tree of
+pub found_in : (block : List ℕ) (tree : Tree) (s t : FindingsTables) (a : Analyses) (s' t' : FindingsTables) → ((block : List ℕ) → TreeOf block tree → Analysis (tree_module tree) block s t a s' t') → TreeOf block tree → tree_module tree ≡ 0 → Analysis 0 block s t a s' t'
+found_in block tree s t a s' t' h of zero = subst (λ m. Analysis m block s t a s' t') zero (h block of)
+
+pub tables_after : (block : List ℕ) (s t s' t' : FindingsTables) (a : Analyses) → Analysis 0 block s t a s' t' → TablesAfter block s t s' t'
+tables_after block s t s' t' a h = analysed h.lawful h.cjs_is.tables h.es_is.tables
 
 module _ (s t : FindingsTables) where
   -- left alone, then, or filled

@@ -1,12 +1,12 @@
 -- The line that a block of a stream gets, and what its analyses leave in the tables.
-use Rattle.std.specs.Prelude.{◌≡◌, ℕ, Bool, true, ◌&&◌, ◌⊎◌, List, ◌++◌, Option, Some, None, Result, Ok, Err, is_ok, codes}
+use Rattle.std.specs.Prelude.{◌≡◌, ℕ, Bool, true, ◌&&◌, ◌⊎◌, List, ◌++◌, Option, Some, None, Result, is_ok, codes}
 use Rattle.std.specs.Io.KnownBytes.{Appends}
 use Rattle.fault.specs.declared.Fault.{Fault}
 use Rattle.findings.specs.Tables.{Leaves, Room, kept, room_of}
 use Rattle.findings.specs.declared.tables.FindingsTables.{FindingsTables}
 use Rattle.tree.specs.Verdict.{Lawful, Verdict}
 use Rattle.tree.specs.declared.refusal.TreeFault.{TreeFault}
-use Rattle.block_lines.specs.Analyses.{AnalysisOf, cjs_of, es_of}
+use Rattle.block_lines.specs.Analyses.{Analysis, AnalysisOf, cjs_of, es_of}
 use Rattle.block_lines.specs.Lines.{AnswersText, FindingsText}
 use Rattle.block_lines.specs.Rooms.{is_within}
 use Rattle.block_lines.specs.declared.analyses.Analyses.{Analyses}
@@ -39,9 +39,8 @@ abbrev pub WritesFound : LineKind → Result Analyses TreeFault → FindingsTabl
 WritesFound kind r s t = WritesLine (FoundLine kind r s t)
 
 -- no analysis lacked a row
-abbrev pub is_whole : Result Analyses TreeFault → Bool
-is_whole (Ok a) = is_ok a.cjs && is_ok a.es
-is_whole (Err e) = true
+abbrev pub is_whole : Analyses → Bool
+is_whole a = is_ok a.cjs && is_ok a.es
 
 -- what the analyses of a block leave in tables which were s and t: all as it was where the block is refused
 pub data TablesAfter (block : List ℕ) (s t s' t' : FindingsTables) : Type 0 where
@@ -58,10 +57,10 @@ pub record LinesAfter (block : List ℕ) (x y : BlockLines) : Type 0 where
   pub small : MayHave block x.small_cjs x.small_es y.small_cjs y.small_es
   pub large : MayHave block x.cjs x.es y.cjs y.es
 
--- the small tables are no larger than the others, and hold what is found, of which more rows would change nothing
-pub record InSmall (block : List ℕ) (x : BlockLines) (r : Result Analyses TreeFault) (y : BlockLines) : Type 0 where
-  pub analysis : AnalysisOf 0 block x.small_cjs x.small_es r y.small_cjs y.small_es
-  pub whole : is_whole r ≡ true
+-- the small tables are no larger than the others, and hold what is found in a block, of which more rows would change nothing
+pub record InSmall (block : List ℕ) (x : BlockLines) (a : Analyses) (y : BlockLines) : Type 0 where
+  pub analysis : Analysis 0 block x.small_cjs x.small_es a y.small_cjs y.small_es
+  pub whole : is_whole a ≡ true
   pub cjs_within : is_within (room_of x.small_cjs) (room_of x.cjs) ≡ true
   pub es_within : is_within (room_of x.small_es) (room_of x.es) ≡ true
 
@@ -72,6 +71,6 @@ pub record OtherwiseSame (block : List ℕ) (x y : BlockLines) : Type 0 where
   pub cjs : y.cjs ≡ x.cjs
   pub es : y.es ≡ x.es
 
-abbrev pub Tried : List ℕ → BlockLines → Option (Result Analyses TreeFault) → BlockLines → Type 0
-Tried block x (Some r) y = InSmall block x r y × OtherwiseSame block x y
+abbrev pub Tried : List ℕ → BlockLines → Option Analyses → BlockLines → Type 0
+Tried block x (Some a) y = InSmall block x a y × OtherwiseSame block x y
 Tried block x None y = OtherwiseSame block x y

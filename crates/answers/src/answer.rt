@@ -1,14 +1,15 @@
 //! The lines that the blocks of a stream get, and the tables in which their analyses work.
-ghost use Rattle.std.specs.Prelude.{◌≡◌, OnOk};
+ghost use Rattle.std.specs.Prelude.{◌≡◌, ℕ, List, OnOk};
 ghost use Rattle.answers.specs.Answers.{LinesAfter, Tried, WritesLine, WritesFound, is_whole, lines_by};
 ghost use Rattle.block_lines.specs.Rooms.{is_within};
 ghost use Rattle.findings.specs.Tables.{room_of};
+ghost use Rattle.tree.specs.Subject.{TreeOf, tree_module};
 
-use block_lines::{Analyses, Line, analyse, answers_line, findings_line};
+use block_lines::{Analyses, Line, analyse_tree, answers_line, findings_line};
 use findings::FindingsTables;
 use std::io;
 use std::io::Write;
-use tree::TreeFault;
+use tree::{Tree, TreeFault};
 
 /// Which lines the blocks of a stream get: those of `findings`, or those of `answers`.
 #[derive(Clone, Copy, PartialEq, Eq, Debug)]
@@ -41,13 +42,10 @@ fn is_within(small: &FindingsTables, large: &FindingsTables) -> bool
 }
 
 /// Whether more rows would have led to nothing else: no analysis lacked one.
-fn is_whole(found: &Result<Analyses, TreeFault>) -> bool
+fn is_whole(found: &Analyses) -> bool
     ensures { result ≡ is_whole found.now }
 {
-    match found {
-        Ok(found) => found.cjs.is_ok() && found.es.is_ok(),
-        Err(_) => true,
-    }
+    found.cjs.is_ok() && found.es.is_ok()
 }
 
 /// Writes the line for a block by what was found in it and the tables that the analyses filled.
@@ -73,14 +71,14 @@ fn write_found<W: Write>(
 }
 
 impl BlockLines<'_> {
-    /// What is found in a block in the small tables, where more rows would lead to nothing else.
-    fn try_small<'a>(&mut self, block: &'a [u8]) -> Option<Result<Analyses<'a>, TreeFault>>
-        ensures { Tried block.now self.old result self.new }
+    /// What is found in a tree in the small tables, where more rows would lead to nothing else.
+    fn try_small<'a>(&mut self, tree: &Tree<'a>) -> Option<Analyses<'a>>
+        ensures { (block : List ℕ) → TreeOf block tree.now → tree_module tree.now ≡ 0 → Tried block self.old result self.new }
     {
         if !is_within(&self.small_cjs, &self.cjs) || !is_within(&self.small_es, &self.es) {
             return None;
         }
-        let found = analyse(0, block, &mut self.small_cjs, &mut self.small_es);
+        let found = analyse_tree(tree, &mut self.small_cjs, &mut self.small_es);
         if is_whole(&found) { Some(found) } else { None }
     }
 
@@ -89,11 +87,24 @@ impl BlockLines<'_> {
         ensures line { OnOk result (WritesLine (lines_by self.old block.now) (W.contents output.old) (W.contents output.new)) }
         ensures tables { LinesAfter block.now self.old self.new }
     {
-        match self.try_small(block) {
-            Some(found) => write_found(self.kind, found, &self.small_cjs, &self.small_es, output),
+        // One check serves both pairs of tables.
+        let tree = match Tree::check(0, block) {
+            Ok(tree) => tree,
+            Err(refusal) => {
+                return write_found(self.kind, Err(refusal), &self.cjs, &self.es, output);
+            }
+        };
+        match self.try_small(&tree) {
+            Some(found) => write_found(
+                self.kind,
+                Ok(found),
+                &self.small_cjs,
+                &self.small_es,
+                output,
+            ),
             None => {
-                let found = analyse(0, block, &mut self.cjs, &mut self.es);
-                write_found(self.kind, found, &self.cjs, &self.es, output)
+                let found = analyse_tree(&tree, &mut self.cjs, &mut self.es);
+                write_found(self.kind, Ok(found), &self.cjs, &self.es, output)
             }
         }
     }

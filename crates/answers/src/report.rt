@@ -5,7 +5,7 @@ ghost use Rattle.answers.specs.Memory.{size_room};
 ghost use Rattle.answers.specs.Report.{Described, ReportOf, held_text, report_text, whole_text, yes_or_no};
 
 use crate::memory::{Sizes, TableMemory};
-use block_lines::analyse;
+use block_lines::analyse_tree;
 use fault::Fault;
 use findings::parsed_source::{ProgramKind, ProgramRef};
 use people::{ListedNames, Rules, listed};
@@ -102,12 +102,14 @@ pub fn write_report<W: Write>(
 ) -> io::Result<()>
     ensures { OnOk result (WritesLine (Described (size_room sizes) block.now) (W.contents output.old) (W.contents output.new)) }
 {
-    let mut cjs_memory = TableMemory::new(heap, sizes)?;
-    let mut es_memory = TableMemory::new(heap, sizes)?;
-    let mut cjs_tables = cjs_memory.tables();
-    let mut es_tables = es_memory.tables();
-    match analyse(0, block, &mut cjs_tables, &mut es_tables) {
-        Ok(found) => {
+    match Tree::check(0, block) {
+        Ok(tree) => {
+            // Not before the check: a refused block needs no tables.
+            let mut cjs_memory = TableMemory::new(heap, sizes)?;
+            let mut es_memory = TableMemory::new(heap, sizes)?;
+            let mut cjs_tables = cjs_memory.tables();
+            let mut es_tables = es_memory.tables();
+            let found = analyse_tree(&tree, &mut cjs_tables, &mut es_tables);
             let report = Report {
                 rows: found.rows,
                 kind: found.kind,

@@ -1,6 +1,7 @@
 //! The check of a block, the script test and both analyses.
-ghost use Rattle.std.specs.Prelude.{◌≡◌};
-ghost use Rattle.block_lines.specs.Analyses.{AnalysisOf};
+ghost use Rattle.std.specs.Prelude.{◌≡◌, ℕ, List};
+ghost use Rattle.block_lines.specs.Analyses.{Analysis, AnalysisOf};
+ghost use Rattle.tree.specs.Subject.{TreeOf, tree_module};
 
 use cjs_parse::analyze_cjs;
 use exports::analyze_es_runtime_exports;
@@ -21,9 +22,28 @@ pub struct Analyses<'a> {
     pub es: Result<(), FindingsFault>,
 }
 
+/// Runs the script test and both analyses of a tree, each with tables of its own.
+pub fn analyse_tree<'a>(
+    tree: &Tree<'a>,
+    cjs: &mut FindingsTables,
+    es: &mut FindingsTables,
+) -> Analyses<'a>
+    ensures { (block : List ℕ) → TreeOf block tree.now → Analysis (tree_module tree.now) block cjs.old es.old result cjs.new es.new }
+{
+    let program = ProgramRef::new(&*tree);
+    Analyses {
+        text: tree.text_section(),
+        rows: tree.count(),
+        kind: program.kind(),
+        is_script: program.compute_is_script(),
+        cjs: analyze_cjs(program, cjs),
+        es: analyze_es_runtime_exports(program, es),
+    }
+}
+
 /// Checks a block of a module, and runs the script test and both analyses, each with tables of its own.
 // Module, block and both tables stay parameters, here and in `answer.rt`: a struct of them is no plainer, as each of
-// the three functions uses the tables apart.
+// the four functions uses the tables apart.
 pub fn analyse<'a>(
     module: u32,
     block: &'a [u8],
@@ -33,13 +53,5 @@ pub fn analyse<'a>(
     ensures { AnalysisOf «module» block.now cjs.old es.old result cjs.new es.new }
 {
     let tree = Tree::check(module, block)?;
-    let program = ProgramRef::new(&tree);
-    Ok(Analyses {
-        text: tree.text_section(),
-        rows: tree.count(),
-        kind: program.kind(),
-        is_script: program.compute_is_script(),
-        cjs: analyze_cjs(program, cjs),
-        es: analyze_es_runtime_exports(program, es),
-    })
+    Ok(analyse_tree(&tree, cjs, es))
 }

@@ -5,7 +5,7 @@ mod analyses;
 mod answer;
 mod line;
 
-pub use analyses::{Analyses, analyse};
+pub use analyses::{Analyses, analyse, analyse_tree};
 pub use answer::{answers_line, findings_line, refusal_of_too_long};
 pub use fault::Line;
 pub use line::{AnswersLine, FindingsLine, Names, Part, Report};
