@@ -1,5 +1,4 @@
 //! Bindings as rows: by the bytes of their names.
-ghost use Rattle.table.specs.Alike.{same_binding, zero_binding};
 ghost use Rattle.table.specs.Kinds.{bindings};
 ghost use Rattle.table.specs.Totals.{numbers_total};
 
@@ -20,9 +19,13 @@ impl Row for Binding {
 
     ghost total = { numbers_total };
 
-    ghost zero = { zero_binding };
+    fn none() -> Self {
+        Self::default()
+    }
 
-    ghost same = { λ x y _. same_binding x y };
+    fn is_none(&self) -> bool {
+        *self == Self::default()
+    }
 
     fn compare(&self, text: &[u8], other: &Self, from: &[u8]) -> Ordering {
         self.name.part(text).cmp(other.name.part(from))

@@ -1,5 +1,4 @@
 //! Loose ends as rows: by module, then by place.
-ghost use Rattle.table.specs.Alike.{same_loose_end, zero_loose_end};
 ghost use Rattle.table.specs.Kinds.{loose_ends};
 ghost use Rattle.table.specs.Totals.{numbers_total};
 
@@ -22,9 +21,13 @@ impl Row for LooseEnd {
 
     ghost total = { numbers_total };
 
-    ghost zero = { zero_loose_end };
+    fn none() -> Self {
+        Self::default()
+    }
 
-    ghost same = { λ x y _. same_loose_end x y };
+    fn is_none(&self) -> bool {
+        *self == Self::default()
+    }
 
     fn compare(&self, _text: &[u8], other: &Self, _from: &[u8]) -> Ordering {
         self.cmp(other)

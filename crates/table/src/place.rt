@@ -1,5 +1,4 @@
 //! Places of a text as rows: by the loose reading of their texts.
-ghost use Rattle.table.specs.Alike.{same_place, zero_place};
 ghost use Rattle.table.specs.Kinds.{places};
 ghost use Rattle.table.specs.Totals.{numbers_total};
 
@@ -13,9 +12,13 @@ impl Row for Place {
 
     ghost total = { numbers_total };
 
-    ghost zero = { zero_place };
+    fn none() -> Self {
+        Self::default()
+    }
 
-    ghost same = { λ x y _. same_place x y };
+    fn is_none(&self) -> bool {
+        *self == Self::default()
+    }
 
     fn compare(&self, text: &[u8], other: &Self, from: &[u8]) -> Ordering {
         compare_loose(self.part(text), other.part(from))

@@ -59,11 +59,11 @@ pub(crate) fn sift<R: Row>(rows: &mut [R], text: &[u8], other: &OrderedTable<R>)
     kept
 }
 
-/// Empties each row. The default comes from a call for each, since `fill` would ask what a clone is.
+/// Empties each row, by a call for each, since `fill` would ask what a clone is.
 pub(crate) fn empty<R: Row>(rows: &mut [R])
     ensures { rows.new ≡ replicate (length rows.old) R.Row.kind.zero }
 {
-    rows.fill_with(|| R::default());
+    rows.fill_with(|| R::none());
 }
 
 /// Whether the keys of rows rise strictly.
@@ -77,6 +77,5 @@ pub fn ascending<R: Row>(rows: &[R], text: &[u8]) -> bool
 pub fn is_zero_from<R: Row>(rows: &[R], from: usize) -> bool
     ensures { Decides result (drop from rows.now ≡ replicate (length rows.now - from) R.Row.kind.zero) }
 {
-    let zero = R::default();
-    rows.iter().skip(from).all(|row| *row == zero)
+    rows.iter().skip(from).all(|row| row.is_none())
 }
