@@ -1,6 +1,6 @@
 //! The check of a block, the script test and both analyses.
 ghost use Rattle.std.specs.Prelude.{◌≡◌, ℕ, List};
-ghost use Rattle.block_lines.specs.Analyses.{Analysis, AnalysisOf};
+ghost use Rattle.block_lines.specs.Analyses.{Analysis, AnalysisOf, TreeAnalysis};
 ghost use Rattle.tree.specs.Subject.{TreeOf, tree_module};
 
 use cjs_parse::analyze_cjs;
@@ -28,7 +28,8 @@ pub fn analyse_tree<'a>(
     cjs: &mut FindingsTables,
     es: &mut FindingsTables,
 ) -> Analyses<'a>
-    ensures { (block : List ℕ) → TreeOf block tree.now → Analysis (tree_module tree.now) block cjs.old es.old result cjs.new es.new }
+    ensures tree { TreeAnalysis tree.now cjs.old es.old result cjs.new es.new }
+    ensures block { (block : List ℕ) → TreeOf block tree.now → Analysis (tree_module tree.now) block cjs.old es.old result cjs.new es.new }
 {
     let program = ProgramRef::new(&*tree);
     Analyses {
